@@ -1,0 +1,11 @@
+pub mod Images
+pub mod Texts
+pub mod Frames
+pub mod Sound
+pub mod Bounded
+pub mod Amounts
+pub mod Programs
+pub mod Throw
+pub mod Steps
+pub mod Calls
+pub mod Engine

@@ -1,0 +1,121 @@
+-- A Throw that has popped its value, with a handler pending. Assumes nothing.
+use mathlib.Core.Path.{_≡_, refl, sym, ap, ap₂, _∙_, subst}
+use mathlib.Core.Bool.{Bool, true, false, not}
+use mathlib.Core.Option.{Option, none, some}
+use mathlib.Core.List.{List, [], _∷_, _++_}
+use Prim.Native.Nat.{ℕ, zero, suc, _+_, _-_, _≤_, _<_, min}
+use native.Mathlib.Omega.{arith}
+use lib.Dec.{leb, ltb, T, lt→ltb}
+use lib.ListN.{length, getD, drop, length-drop}
+use Rattle.machine.specs.Basic.{if_then_else_, lowest}
+use Rattle.machine.specs.Value.{Value}
+use Rattle.machine.specs.Error.{JsVmError, ipOutOfBounds, stackOverflow}
+use Rattle.machine.specs.State.{State, Frame, Handler, running, setIp, topAt}
+use Rattle.machine.specs.Fields as S
+use Rattle.machine.specs.Act as A
+use Rattle.machine.specs.Act.{apply, error}
+use Rattle.machine.specs.Program.{Program, make, end, failed, went, did, Outcome, over, noting, unlessError, exec}
+use Rattle.machine.specs.Instruction.{fetch, fetchFrom, instruction}
+use Rattle.machine.specs.Run.{Kind, begun, runOut, noFrame, kindIn, kindOf, body, Step, step, after}
+use Rattle.machine.specs.Tally.{Tally}
+use Rattle.machine.specs.Demand3.{Throws, Caught}
+use Rattle.machine.proofs.Sound.{Sound}
+
+-- The step's byte is 74, and its place is within the code.
+kind-within : (b : Bool) (n : ℕ) → (if b then begun n else runOut) ≡ begun 74 → (b ≡ true) × (n ≡ 74)
+kind-within true n e = (refl, cc)
+kind-within false n e = let z : _≡_ {A = ℕ} 0 1 = cc in absurd (omega arith)
+
+module _ (s : State) (f : Frame) (fs : List Frame) (v : Value) (vs : List Value) (h : Handler) where
+  -- after the opcode is fetched, its value popped, and the handler taken
+  abbrev s₁ : State
+  s₁ = apply (A.jump (f .ip + 1)) s
+
+  abbrev s₅ : State
+  s₅ = apply A.unwind (apply A.drop s₁)
+
+  abbrev s₇ : State
+  s₇ = apply (A.jump (h .catch)) (apply (A.push v) s₅)
+
+  abbrev pushing : Option JsVmError → Outcome
+  pushing e =
+      noting (did A.drop []) (noting (did A.unwind [])
+      (unlessError e s₅ (noting (did (A.push v) []) (noting (did (A.jump (h .catch)) []) (over went s₇)))))
+
+  fetched : (b : Bool) (n : ℕ) → b ≡ true → n ≡ 74
+      → exec (if b then make (A.jump (f .ip + 1)) (instruction n) else end (failed ipOutOfBounds)) s
+      ≡ noting (did (A.jump (f .ip + 1)) []) (exec (instruction 74) s₁)
+  fetched b n eb en = ap₂ (λ (x : Bool) (y : ℕ). exec (if x then make (A.jump (f .ip + 1)) (instruction y) else end (failed ipOutOfBounds)) s) eb en
+
+thrown : (s : State) (f : Frame) (fs : List Frame) (v : Value) (vs : List Value) (h : Handler) (hs : List Handler)
+    → let s′ : State = S.setOperands (v ∷ vs) (S.setHandlers (h ∷ hs) (S.setFrames (f ∷ fs) s)) in
+    exec (instruction 74) (s₁ s′ f fs v vs h) ≡ pushing s′ f fs v vs h (error (A.push v) (s₅ s′ f fs v vs h))
+thrown s f fs v vs h hs = refl
+
+-- A stack cut to its lowest n, or to the lowest min (its length, n).
+lowest-min : {A : Type 0} (n : ℕ) (xs : List A) → lowest (min (length xs) n) xs ≡ lowest n xs
+lowest-min n xs =
+    let e : length xs - min (length xs) n ≡ length xs - n = omega arith in ap (λ (k : ℕ). drop k xs) e
+
+record Left (p c : ℕ) (f : Frame) (fs : List Frame) (k : ℕ) : Type 0 where
+  top : Frame
+  below : List Frame
+  left : drop k (f ∷ fs) ≡ top ∷ below
+  at : topAt c (drop k (setIp p f ∷ fs)) ≡ setIp c top ∷ below
+
+some-left : (j : ℕ) (fs : List Frame) → j < length fs → (top : Frame) × (below : List Frame) × (drop j fs ≡ top ∷ below)
+some-left j [] l = absurd (omega arith)
+some-left zero (f ∷ fs) l = (f, fs, refl)
+some-left (suc j) (f ∷ fs) l = some-left j fs (omega arith)
+
+frames-left : (p c : ℕ) (f : Frame) (fs : List Frame) (k : ℕ) → k ≤ length fs → Left p c f fs k
+frames-left p c f fs zero l = record { top = f; below = fs; left = refl; at = refl }
+frames-left p c f fs (suc j) l =
+    let x = some-left j fs l in record { top = x .0; below = x .1; left = x .2; at = ap (topAt c) (x .2) }
+
+is-true : (b : Bool) → T b → b ≡ true
+is-true true t = refl
+is-true false t = absurd t
+
+room : (vs : List Value) (n : ℕ) → suc (length vs) ≤ 1024 → _≡_ {A = Option JsVmError} (if ltb (length (lowest n vs)) 1024 then none else some stackOverflow) none
+room vs n l =
+    let k : length (lowest n vs) < 1024 = let q = length-drop (length vs - n) vs in omega arith in
+    rw (is-true (ltb (length (lowest n vs)) 1024) (lt→ltb (length (lowest n vs)) 1024 k))
+
+module _ (s : State) (f : Frame) (fs : List Frame) (v : Value) (vs : List Value) (h : Handler) (hs : List Handler) where
+  abbrev throwing : State
+  throwing = S.setOperands (v ∷ vs) (S.setHandlers (h ∷ hs) (S.setFrames (f ∷ fs) s))
+
+  outcome : suc (length vs) ≤ 1024 → kindOf throwing ≡ begun 74
+      → exec (body (kindOf throwing)) throwing ≡ noting (did (A.jump (f .ip + 1)) []) (pushing throwing f fs v vs h none)
+  outcome l e =
+      let w = kind-within (ltb (f .ip) (running throwing f .size)) (getD (s .code) (running throwing f .at + f .ip) 0) e in
+      ap (λ (k : Kind). exec (body k) throwing) e
+      ∙ fetched throwing f fs v vs h (ltb (f .ip) (running throwing f .size)) (getD (s .code) (running throwing f .at + f .ip) 0) (w .0) (w .1)
+      ∙ ap (λ (o : Outcome). noting (did (A.jump (f .ip + 1)) []) o) (thrown s f fs v vs h hs)
+      ∙ ap (λ (x : Option JsVmError). noting (did (A.jump (f .ip + 1)) []) (pushing throwing f fs v vs h x)) (room vs (h .operands) l)
+
+  caught : suc (length vs) ≤ 1024 → 1 ≤ h .frames → kindOf throwing ≡ begun 74 → Caught (step throwing) v vs h hs
+  caught l g e =
+      let E = outcome l e in
+      let k = frames-left (f .ip + 1) (h .catch) f fs (suc (length fs) - h .frames) (omega arith) in
+      record {
+        noError = ap (λ (o : Outcome). o .how) E;
+        operands = ap (λ (o : Outcome). after throwing o .operands) E ∙ ap (λ (x : List Value). v ∷ x) (sym (lowest-min (h .operands) vs));
+        handlers = ap (λ (o : Outcome). after throwing o .handlers) E;
+        top = k .top;
+        below = k .below;
+        left = lowest-min (h .frames) (f ∷ fs) ∙ k .left;
+        frames = ap (λ (o : Outcome). after throwing o .frames) E ∙ k .at;
+      }
+
+pub throws : (s : State) (t : Tally) → Sound s t → Throws (step s)
+throws s t r e v vs h hs eo eh = go (s .frames) refl
+  where
+    go : (fs : List Frame) → s .frames ≡ fs → Caught (step s) v vs h hs
+    go [] ef = let z : _≡_ {A = Kind} noFrame (begun 74) = ap (kindIn s) (sym ef) ∙ e in let y : _≡_ {A = ℕ} 0 1 = cc in absurd (omega arith)
+    go (f ∷ fs) ef =
+        let σ : s ≡ throwing s f fs v vs h hs = λ i. S.setOperands (eo i) (S.setHandlers (eh i) (S.setFrames (ef i) s)) in
+        subst (λ (x : State). Caught (step x) v vs h hs) (sym σ)
+        (caught s f fs v vs h hs (let q = r .few in let p = ap length eo in omega arith)
+        (rw eh at (r .saved) .0) (subst (λ (x : State). kindOf x ≡ begun 74) σ e))

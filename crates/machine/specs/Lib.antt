@@ -1,0 +1,16 @@
+pub mod Basic
+pub mod Ascii
+pub mod Number
+pub mod Value
+pub mod Image
+pub mod State
+pub mod Convert
+pub mod Fields
+pub mod Error
+pub mod Act
+pub mod Program
+pub mod Instruction
+pub mod Run
+pub mod Host
+pub mod Tally
+pub mod Demand3
