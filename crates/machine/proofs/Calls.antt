@@ -36,11 +36,11 @@ fine-fresh = record { agrees = sound-fresh; bounded = bounded-fresh }
 
 abbrev storeNumbered : ℕ → Store
 storeNumbered n = getD (
-  codeStore ∷ codeStore ∷ codeStore ∷ codeStore ∷ codeStore ∷ codeStore ∷ codeStore ∷ codeStore ∷ codeStore
-  ∷ imageStore ∷ codeStore ∷ frameStore
-  ∷ codeStore ∷ codeStore ∷ codeStore ∷ codeStore ∷ codeStore ∷ codeStore ∷ codeStore ∷ codeStore ∷ codeStore
-  ∷ slotStore ∷ handlerStore ∷ functionStore ∷ objectStore ∷ propertyStore ∷ globalStore ∷ textStore ∷ outputStore ∷ []
-) n codeStore
+    codeStore ∷ codeStore ∷ codeStore ∷ codeStore ∷ codeStore ∷ codeStore ∷ codeStore ∷ codeStore ∷ codeStore
+    ∷ imageStore ∷ codeStore ∷ frameStore
+    ∷ codeStore ∷ codeStore ∷ codeStore ∷ codeStore ∷ codeStore ∷ codeStore ∷ codeStore ∷ codeStore ∷ codeStore
+    ∷ slotStore ∷ handlerStore ∷ functionStore ∷ objectStore ∷ propertyStore ∷ globalStore ∷ textStore ∷ outputStore ∷ []
+    ) n codeStore
 
 numbered-back : (q : Store) → storeNumbered (question q) ≡ q
 numbered-back codeStore = refl

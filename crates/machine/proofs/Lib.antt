@@ -9,3 +9,4 @@ pub mod Throw
 pub mod Steps
 pub mod Calls
 pub mod Engine
+pub mod Ecma

@@ -91,7 +91,15 @@ pub record KeptRun (n : ℕ) (t : Tally) (hs : List Held) (r : Ran) : Type 0 whe
 module _ (n : ℕ) (s : State) (t : Tally) (hs : List Held) (f : Fine s t) (h : All (Holds (bytes s)) hs) where
   kept-limit : KeptRun n t hs (stopped n (Result.ended (End.failed executionLimitExceeded)) s)
   kept-limit = record {
-    right = tt; fine = f; orderly = tt; texts = tt; held = h; summed = omega arith; threw = tt; full = λ q. ((λ z. absurd z), (λ z. absurd z)); wentOn = tt
+    right = tt;
+    fine = f;
+    orderly = tt;
+    texts = tt;
+    held = h;
+    summed = omega arith;
+    threw = tt;
+    full = λ q. ((λ z. absurd z), (λ z. absurd z));
+    wentOn = tt;
   }
 
 -- A step p from s, of which n have been made before.

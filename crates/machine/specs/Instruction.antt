@@ -119,15 +119,15 @@ slotIn vs i (f ∷ fs) = if ltb i (f .count) then getD vs (f .base + i) undefine
 
 -- Properties
 
--- `get_property`. Only known objects have properties, so an unknown id gives Undefined.
-abbrev pub getProperty : Bytes → List Property → Value → List ℕ → Value
-getProperty m ps undefined k = undefined
-getProperty m ps null k = undefined
-getProperty m ps (boolean b) k = undefined
-getProperty m ps (number n) k = undefined
-getProperty m ps (text t) k = if same k lengthKey then number (N.whole (length (bytesOf m t))) else undefined
-getProperty m ps (object o) k = propertyIn m ps o k
-getProperty m ps (function f) k = undefined
+-- `get_property`
+abbrev pub getProperty : Bytes → List Kind → List Property → Value → List ℕ → Value
+getProperty m os ps undefined k = undefined
+getProperty m os ps null k = undefined
+getProperty m os ps (boolean b) k = undefined
+getProperty m os ps (number n) k = undefined
+getProperty m os ps (text t) k = if same k lengthKey then number (N.whole (length (bytesOf m t))) else undefined
+getProperty m os ps (object o) k = if ltb o (length os) then propertyIn m ps o k else undefined
+getProperty m os ps (function f) k = undefined
 
 -- `set_property`: a numeric key of an array at or above its length sets the length to key + 1, wrapped as in 000. A store into a non-object or
 -- an unknown id does nothing and asks nothing.
@@ -220,13 +220,13 @@ abbrev pub StoreGlobal : Program
 StoreGlobal = fetchName λ n. pop λ v. make (putGlobal n (plain v)) next
 
 abbrev pub LoadProperty : Program
-LoadProperty = fetchName λ k. pop λ o. look λ s. pushed (getProperty (bytes s) (s .properties) o k)
+LoadProperty = fetchName λ k. pop λ o. look λ s. pushed (getProperty (bytes s) (s .objects) (s .properties) o k)
 
 abbrev pub StoreProperty : Program
 StoreProperty = fetchName λ k. pop λ v. pop λ o. setProperty o k v
 
 abbrev pub LoadIndex : Program
-LoadIndex = pop λ i. pop λ o. look λ s. pushed (getProperty (bytes s) (s .properties) o (toJsString (bytes s) i))
+LoadIndex = pop λ i. pop λ o. look λ s. pushed (getProperty (bytes s) (s .objects) (s .properties) o (toJsString (bytes s) i))
 
 abbrev pub StoreIndex : Program
 StoreIndex = pop λ v. pop λ i. pop λ o. look λ s. setProperty o (toJsString (bytes s) i) v

@@ -14,3 +14,6 @@ pub mod Run
 pub mod Host
 pub mod Tally
 pub mod Demand3
+pub mod Bench
+pub mod Out
+pub mod Ecma
