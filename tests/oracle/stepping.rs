@@ -1,0 +1,18 @@
+
+// Put after the unchanged text of document 000, in the copy that is run step by step: what that file keeps to itself.
+impl JsVm {
+    /// How many steps the loop makes before it gives ExecutionLimitExceeded.
+    pub fn limit_steps(&mut self, n: usize) {
+        self.max_steps = n;
+    }
+
+    /// The loop again, on what stands.
+    pub fn go_on(&mut self) -> Result<JsValue, JsVmError> {
+        self.run_loop()
+    }
+
+    /// The catch place of each handler, and the operands and frames that it saved; the oldest first.
+    pub fn handlers(&self) -> Vec<[usize; 3]> {
+        self.try_stack.iter().map(|t| [t.catch_ip, t.stack_depth, t.call_depth]).collect()
+    }
+}
