@@ -1,0 +1,22 @@
+-- `image::byte_of` meets its contract. Assumes nothing.
+use borrow.Author.Needs.{needs}
+use native.Mathlib.Omega.{arith}
+use mathlib.Core.Path.{refl, sym}
+use lib.ListN.{List·getD-eq-default}
+use Rattle.image.proofs.byte_of.Statement.{statement}
+use Rattle.image.proofs.byte_of.Tie as tie
+
+shared-slice-read-result : tie.Need-shared-slice-read-result
+shared-slice-read-result c = search needs
+
+cast-result : tie.Need-cast-result
+cast-result c = omega (arith, c .shared-slice-known .given (c .before .before .args .p))
+
+returns : tie.Need-returns
+returns c = (refl, omega (arith, c .shared-slice-known .given (c .before .before .args .p)))
+
+returns-2 : tie.Need-returns-2
+returns-2 c = (sym (List·getD-eq-default (c .before .args .code .now) 0 (c .if1 .left)), omega arith)
+
+pub byte-of-spec : {M : Type 1} → statement M
+byte-of-spec = tie.close (tie.spec shared-slice-read-result cast-result returns returns-2)

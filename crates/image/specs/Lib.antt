@@ -1,0 +1,4 @@
+pub mod View
+pub mod Fills
+pub mod Load
+pub mod Laws

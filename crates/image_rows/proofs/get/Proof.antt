@@ -1,0 +1,20 @@
+-- `image_rows::get` meets its contract. Assumes nothing.
+use borrow.Author.Needs.{needs}
+use native.Mathlib.Omega.{arith}
+use Rattle.image_rows.proofs.get.Statement.{statement}
+use Rattle.image_rows.proofs.get.Tie as tie
+
+shared-slice-read-result : tie.Need-shared-slice-read-result
+shared-slice-read-result c = search needs
+
+cast-result : tie.Need-cast-result
+cast-result c = omega (arith, c .shared-slice-known .given (c .before .before .args .i))
+
+returns : tie.Need-returns
+returns c = omega (arith, c .shared-slice-known .given (c .before .before .args .i))
+
+returns-2 : tie.Need-returns-2
+returns-2 c = search needs
+
+pub get-spec : {M : Type 1} → statement M
+get-spec = tie.close (tie.spec shared-slice-read-result cast-result returns returns-2)

@@ -1,0 +1,4 @@
+pub mod Says
+pub mod Constants
+pub mod Answers
+pub mod Laws

@@ -1,0 +1,17 @@
+//! Runs the bench sheet's rows on operands, slots, keys and arrays over the stores, and says how many differ.
+use libc::STDOUT_FILENO;
+
+mod stack_rows;
+
+fn report(name: &[u8], rows: u64, differ: u64) {
+    io::write_all(STDOUT_FILENO, name);
+    io::print_decimal(STDOUT_FILENO, rows);
+    io::write_all(STDOUT_FILENO, b" compared, ");
+    io::print_decimal(STDOUT_FILENO, differ);
+    io::write_all(STDOUT_FILENO, b" differ\n");
+}
+
+fn main() {
+    let mut stacks = [0u64; 9728];
+    report(b"stacks: ", stack_rows::ROWS, stack_rows::differing(&mut stacks));
+}
