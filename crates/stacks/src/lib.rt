@@ -1,5 +1,5 @@
-// The stacks of a run: operands, local slots, frames and handlers, side by side in one lent store of 9,728 words.
-// Each function is one act of the machine, and says so by one equation over the machine's state.
+//! The stacks of a run: operands, local slots, frames and handlers, side by side in one lent store of 9,728 words.
+//! Each function is one act of the machine, and says so by one equation over the machine's state.
 use value::JsVmError;
 use value::Space;
 use value::Value;

@@ -13,5 +13,9 @@ fn report(name: &[u8], rows: u64, differ: u64) {
 
 fn main() {
     let mut stacks = [0u64; 9728];
-    report(b"stacks: ", stack_rows::ROWS, stack_rows::differing(&mut stacks));
+    report(
+        b"stacks: ",
+        stack_rows::ROWS,
+        stack_rows::differing(&mut stacks),
+    );
 }

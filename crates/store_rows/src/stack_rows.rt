@@ -1,7 +1,10 @@
 //! The bench sheet's rows on operands and slots, and the same at the limits of frames and handlers.
-use stacks::{Depths, Made, Popped};
-use value::{JsVmError, Space, Value};
-
+use stacks::Depths;
+use stacks::Made;
+use stacks::Popped;
+use value::JsVmError;
+use value::Space;
+use value::Value;
 ghost use mathlib.Core.Path.{_≡_};
 ghost use mathlib.Core.List.{List};
 ghost use Prim.Native.Nat.{ℕ, _<_};

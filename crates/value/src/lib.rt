@@ -1,4 +1,4 @@
-// A value of the machine, by value, and its three words in a lent store.
+//! A value of the machine, by value, and its three words in a lent store.
 ghost use mathlib.Core.Path.{_≡_};
 ghost use Prim.Native.Nat.{_+_, _<_};
 ghost use lib.ListN.{length};
