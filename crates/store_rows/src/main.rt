@@ -1,6 +1,7 @@
 //! Runs the bench sheet's rows on operands, slots, keys and arrays over the stores, and says how many differ.
 use libc::STDOUT_FILENO;
 
+mod object_rows;
 mod stack_rows;
 
 fn report(name: &[u8], rows: u64, differ: u64) {
@@ -13,9 +14,16 @@ fn report(name: &[u8], rows: u64, differ: u64) {
 
 fn main() {
     let mut stacks = [0u64; 9728];
+    let mut heap = [0u64; 9472];
+    let mut text = [0u8; 32768];
     report(
         b"stacks: ",
         stack_rows::ROWS,
         stack_rows::differing(&mut stacks),
+    );
+    report(
+        b"arrays: ",
+        object_rows::ROWS,
+        object_rows::differing(&mut heap, &mut text, &mut stacks),
     );
 }

@@ -123,6 +123,13 @@ fn handlers(stacks: &mut [u64], n: usize) -> Depths
     d
 }
 
+// A number as the only operand.
+pub fn one(stacks: &mut [u64], n: u64)
+    requires { ⌜ length (now stacks) ≡ stackWords ⌝ }
+{
+    stacks::push(none(), stacks, Value::Number(n));
+}
+
 // A push onto n operands succeeds.
 fn push_fits(stacks: &mut [u64], n: usize) -> bool
     requires { ⌜ length (now stacks) ≡ stackWords ⌝ }
@@ -132,7 +139,7 @@ fn push_fits(stacks: &mut [u64], n: usize) -> bool
 }
 
 // A push onto n operands is 16.
-fn push_overflows(stacks: &mut [u64], n: usize) -> bool
+pub fn push_overflows(stacks: &mut [u64], n: usize) -> bool
     requires { ⌜ length (now stacks) ≡ stackWords ⌝ }
 {
     let d = operands(stacks, n);
@@ -175,7 +182,7 @@ fn is_number(v: Value, n: u64) -> bool {
     }
 }
 
-fn is_undefined(v: Value) -> bool {
+pub fn is_undefined(v: Value) -> bool {
     match v {
         Value::Undefined => true,
         _ => false,
@@ -210,11 +217,11 @@ fn empty_pops(stacks: &mut [u64]) -> bool
     is_undefined(stacks::top(d, stacks))
 }
 
-fn counted(agrees: bool) -> u64 {
+pub fn counted(agrees: bool) -> u64 {
     if agrees { 0 } else { 1 }
 }
 
-fn sum(a: u64, b: u64) -> u64 {
+pub fn sum(a: u64, b: u64) -> u64 {
     std::num::wrapping_add_u64(a, b)
 }
 

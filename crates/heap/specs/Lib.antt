@@ -1,0 +1,6 @@
+pub mod Layout
+pub mod View
+pub mod Rows
+pub mod Tables
+pub mod Laws
+pub mod Finds
