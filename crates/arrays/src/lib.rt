@@ -1,12 +1,16 @@
 //! Arrays: made from operands, and stored into by their numeric keys.
 use convert::Key;
 use heap::Found;
+use heap::OBJECT_LIMIT;
 use heap::ObjectType;
+use heap::PROPERTIES_AT;
+use heap::PROPERTY_LIMIT;
 use heap::Sizes;
 use number::JsNumber;
 use number::format::LONGEST_TEXT;
 use objects::Placed;
 use texts::Source;
+use texts::TEXT_LIMIT;
 use value::Space;
 use value::Value;
 ghost use mathlib.Core.Path.{_≡_};
@@ -36,15 +40,6 @@ ghost use Rattle.heap.specs.View.{Sized};
 ghost use Rattle.objects.specs.View.{Puts};
 ghost use Rattle.arrays.specs.Keys.{keysSize};
 ghost use Rattle.arrays.specs.Arrays.{given, Laying};
-
-// As in crates heap and texts.
-const OBJECT_LIMIT: usize = 512;
-
-const PROPERTY_LIMIT: usize = 1024;
-
-const TEXT_LIMIT: usize = 32768;
-
-const PROPERTIES_AT: usize = 2560;
 
 // How many digits an element's number has.
 fn key_size(i: usize) -> usize

@@ -22,20 +22,22 @@ ghost use Rattle.heap.specs.Rows.{Finds};
 ghost use Rattle.heap.specs.Finds.{isPair, isNamed, pairAt, nameAt, stores, globalIn, lengthOf};
 
 // The limits of document 01, and where each store begins: a function has 2 words, an object 1, a property and a global 6.
-const FUNCTION_LIMIT: usize = 1024;
+pub const FUNCTION_LIMIT: usize = 1024;
 
-const OBJECT_LIMIT: usize = 512;
+pub const OBJECT_LIMIT: usize = 512;
 
-const PROPERTY_LIMIT: usize = 1024;
+pub const PROPERTY_LIMIT: usize = 1024;
 
-const OBJECTS_AT: usize = 2 * FUNCTION_LIMIT;
+pub const GLOBAL_LIMIT: usize = 128;
 
-const PROPERTIES_AT: usize = OBJECTS_AT + OBJECT_LIMIT;
+pub const OBJECTS_AT: usize = 2 * FUNCTION_LIMIT;
 
-const GLOBALS_AT: usize = PROPERTIES_AT + 6 * PROPERTY_LIMIT;
+pub const PROPERTIES_AT: usize = OBJECTS_AT + OBJECT_LIMIT;
+
+pub const GLOBALS_AT: usize = PROPERTIES_AT + 6 * PROPERTY_LIMIT;
 
 // `NATIVE_CONSOLE_ID`
-const NATIVE_CONSOLE_ID: u64 = 18446744073709551615;
+pub const NATIVE_CONSOLE_ID: u64 = 18446744073709551615;
 
 // How many stand.
 pub struct Sizes {

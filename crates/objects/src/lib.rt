@@ -1,7 +1,12 @@
 //! The machine's acts on properties and globals: a key or name that is there gets another value; a new one is kept in the text store.
 use heap::Found;
+use heap::GLOBAL_LIMIT;
+use heap::GLOBALS_AT;
+use heap::PROPERTIES_AT;
+use heap::PROPERTY_LIMIT;
 use heap::Sizes;
 use texts::Source;
+use texts::TEXT_LIMIT;
 use value::Space;
 use value::Value;
 ghost use mathlib.Core.Path.{_≡_};
@@ -17,17 +22,6 @@ ghost use Rattle.heap.specs.View.{Sized};
 ghost use Rattle.heap.specs.Rows.{Finds};
 ghost use Rattle.heap.specs.Finds.{pairAt, nameAt};
 ghost use Rattle.objects.specs.View.{Puts, Lays};
-
-// As in crates heap and texts.
-const PROPERTY_LIMIT: usize = 1024;
-
-const GLOBAL_LIMIT: usize = 128;
-
-const TEXT_LIMIT: usize = 32768;
-
-const PROPERTIES_AT: usize = 2560;
-
-const GLOBALS_AT: usize = PROPERTIES_AT + 6 * PROPERTY_LIMIT;
 
 // What came of an act: how many stand and the bytes of text in use, or the store that refused.
 pub enum Placed {
