@@ -1,4 +1,4 @@
-//! Texts written where they are wanted, with no copy on the way: into a line of the output, or to the start of a caller's buffer.
+//! Texts written where they are wanted: into a line of the output, or to the start of a caller's buffer. A number and a word pass a small buffer.
 use crate::Kept;
 use crate::OUTPUT_LIMIT;
 use crate::bytes_of;
