@@ -72,7 +72,7 @@ fn keys_size(count: usize) -> usize
     sum + 6
 }
 
-fn element_key(i: usize, buffer: &mut [u8; LONGEST_TEXT]) -> Source
+pub fn element_key(i: usize, buffer: &mut [u8; LONGEST_TEXT]) -> Source
     requires { ⌜ (i < 65536) × (length (now buffer) ≡ longestText) ⌝ }
     ensures { λ r. ⌜ Spells (λ m. decimal i) r (now (buffer .exit)) ⌝ }
 {

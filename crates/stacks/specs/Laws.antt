@@ -178,19 +178,19 @@ one-handler d h = record {
   ready = λ w r. record { operands = r .operands; slots = r .slots; frames = r .frames; handlers = omega (arith, r .handlers); size = r .size };
 }
 
-abbrev pub withPlace : ℕ → Depths → Depths
-withPlace p d = record { operands = d .operands; slots = d .slots; frames = d .frames; handlers = d .handlers; ip = p }
+abbrev pub withIp : ℕ → Depths → Depths
+withIp p d = record { operands = d .operands; slots = d .slots; frames = d .frames; handlers = d .handlers; ip = p }
 
 top-top : (p q : ℕ) (fs : List St.Frame) → St.topAt p fs ≡ St.topAt p (St.topAt q fs)
 top-top p q [] = refl
 top-top p q (f ∷ fs) = refl
 
 -- a jump changes the depths alone
-pub jumped : (d : Depths) (w : List ℕ) (p : ℕ) (s : St.State) → View.onStacks (withPlace p d) w s ≡ A.apply (A.jump p) (View.onStacks d w s)
+pub jumped : (d : Depths) (w : List ℕ) (p : ℕ) (s : St.State) → View.onStacks (withIp p d) w s ≡ A.apply (A.jump p) (View.onStacks d w s)
 jumped d w p s = ap (λ (x : List St.Frame). Fi.setFrames x (View.onStacks d w s)) (top-top p (d .ip) (View.rowsOf w (d .frames)))
 
-pub ready-placed : {d : Depths} {w : List ℕ} (p : ℕ) → View.Ready d w → View.Ready (withPlace p d) w
-ready-placed p r = record { operands = r .operands; slots = r .slots; frames = r .frames; handlers = r .handlers; size = r .size }
+pub ready-ip : {d : Depths} {w : List ℕ} (p : ℕ) → View.Ready d w → View.Ready (withIp p d) w
+ready-ip p r = record { operands = r .operands; slots = r .slots; frames = r .frames; handlers = r .handlers; size = r .size }
 
 pub truncated : (d : Depths) (n m : ℕ) → m ≡ d .operands - n → View.Truncates d n (withOperands m d)
 truncated d n m e = record {

@@ -5,3 +5,4 @@ pub mod Cuts
 pub mod Slots
 pub mod Enters
 pub mod Arguments
+pub mod Popped

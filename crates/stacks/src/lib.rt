@@ -26,9 +26,9 @@ const HANDLER_LIMIT: usize = 64;
 
 const SLOTS_AT: usize = 3 * OPERAND_LIMIT;
 
-const FRAMES_AT: usize = SLOTS_AT + 3 * SLOT_LIMIT;
+pub const FRAMES_AT: usize = SLOTS_AT + 3 * SLOT_LIMIT;
 
-const HANDLERS_AT: usize = FRAMES_AT + 5 * FRAME_LIMIT;
+pub const HANDLERS_AT: usize = FRAMES_AT + 5 * FRAME_LIMIT;
 
 // How many stand, and the place of the newest frame.
 pub struct Depths {

@@ -14,8 +14,7 @@ use Rattle.machine.specs.Program.{Program, make}
 use Rattle.machine.specs.Out.{Out, refused, out, out-make, out-refused, Asked}
 use Rattle.value.specs.Lists.{bytesOf, row-length}
 use Rattle.texts.specs.Overwrite.{overwrite, overwrite-bytes, overwrite-length, overwrite-under, overwrite-more}
-use Rattle.texts.specs.Sources.{sourceBytes, storesOf}
-use Rattle.texts.specs.declared.Source.{Source}
+use Rattle.texts.specs.Sources.{storesOf}
 use Rattle.texts.specs.declared.Kept.{Kept}
 use Rattle.texts.specs.declared.Kept.the-variants.{Went, Refused}
 
@@ -109,13 +108,13 @@ module _ (bs : List ℕ) (n : ℕ) (t : List ℕ) (r : Kept) (t′ : List ℕ) (
       let two : 2 + length bs ≡ length (A.line bs) = omega arith in
       appends-act (A.print bs) St.outputStore (A.line bs) (λ y. S.setOutput y s) (λ y. refl) (λ y. ap (λ (k : ℕ). A.need St.outputStore k ∷ []) two) (λ y. refl) (λ y. refl) n t t′ l p r x
 
--- Two texts kept as one. The second is read from a store that has the first.
-module _ (c t : List ℕ) (n m : ℕ) (first second : List ℕ) (a b : Source) (h : m ≤ textLimit) (l : length t ≡ textLimit) where
+-- Two texts kept as one. The second is read from stores that have the first.
+module _ (c t : List ℕ) (n m : ℕ) (f g : St.Bytes → List ℕ) (h : m ≤ textLimit) (l : length t ≡ textLimit) where
   abbrev one : List ℕ
-  one = sourceBytes (storesOf c n t m) first a
+  one = f (storesOf c n t m)
 
   abbrev two : List ℕ
-  two = sourceBytes (storesOf c n t m) second b
+  two = g (storesOf c n t m)
 
   module _ (x y : ℕ) (ex : x ≡ length one) (ey : y ≡ length two) where
     both : x + y ≡ length (one ++ two)
@@ -125,18 +124,16 @@ module _ (c t : List ℕ) (n m : ℕ) (first second : List ℕ) (a b : Source) (
     join-full q = appends-full textLimit m t (one ++ two) (x + y) both h q
 
     module _ (t′ : List ℕ) (e′ : t′ ≡ overwrite t m one) (fits : x + y ≤ textLimit - m) where
-      same-second : sourceBytes (storesOf c n t′ m) second b ≡ two
-      same-second =
-          ap (λ (z : List ℕ). sourceBytes (record { code = bytesOf c n; text = z }) second b)
-          (ap (λ (z : List ℕ). bytesOf z m) e′ ∙ overwrite-under t m one (omega arith) m (omega arith))
+      same-second : g (storesOf c n t′ m) ≡ two
+      same-second = ap (λ (z : List ℕ). g (record { code = bytesOf c n; text = z })) (ap (λ (z : List ℕ). bytesOf z m) e′ ∙ overwrite-under t m one (omega arith) m (omega arith))
 
-      pub join-room : m + x + length (sourceBytes (storesOf c n t′ m) second b) ≤ length t′
+      pub join-room : m + x + length (g (storesOf c n t′ m)) ≤ length t′
       join-room =
           let k = ap length e′ ∙ overwrite-length t m one (omega arith) in
           let z = ap length same-second in
           omega arith
 
-      pub join-went : (t″ : List ℕ) → t″ ≡ overwrite t′ (m + x) (sourceBytes (storesOf c n t′ m) second b) → Keeps (one ++ two) m t (Went (m + x + y)) t″
+      pub join-went : (t″ : List ℕ) → t″ ≡ overwrite t′ (m + x) (g (storesOf c n t′ m)) → Keeps (one ++ two) m t (Went (m + x + y)) t″
       join-went t″ q =
           let z : m + x ≡ m + length one = omega arith in
           let w : t″ ≡ overwrite t m (one ++ two) =

@@ -1,12 +1,9 @@
-//! Texts written where they are wanted: into a line of the output, or to the start of a caller's buffer. A number and a word pass a small buffer.
+//! Texts written where they are wanted: into a line of the output, or to the start of a caller's buffer.
 use crate::Kept;
 use crate::OUTPUT_LIMIT;
-use crate::bytes_of;
 use crate::copy;
-use crate::size_of;
 use crate::spell;
 use number::format::Formatted;
-use number::format::LONGEST_TEXT;
 use value::Value;
 ghost use mathlib.Core.Path.{_≡_};
 ghost use mathlib.Core.List.{_++_};
@@ -25,9 +22,7 @@ ghost use Rattle.texts.specs.Lines.{valuesAt, gap, MeasuresLine};
 pub fn size_of_value(n: usize, m: usize, v: Value) -> usize
     ensures { λ r. ⌜ Sizes n m (valueOf v) r ⌝ }
 {
-    let mut buffer = [0; LONGEST_TEXT];
-    let source = spell::to_js_string(v, &mut buffer);
-    size_of(n, m, LONGEST_TEXT, source)
+    spell::spelling_size(n, m, spell::spell_value(v))
 }
 
 /// The text of a value written at a place; answers the place behind it.
@@ -44,11 +39,7 @@ pub fn write_value<'a>(
     requires { ⌜ at + length (toJsString (storesOf (now code) n (now text) m) (valueOf v)) ≤ length (now dest) ⌝ }
     ensures { λ r. ⌜ (now (dest .exit) ≡ overwrite (now (dest .entry)) at (toJsString (storesOf (now (code .entry)) n (now (text .entry)) m) (valueOf v))) × (r ≡ at + length (toJsString (storesOf (now (code .entry)) n (now (text .entry)) m) (valueOf v))) ⌝ }
 {
-    let mut buffer = [0; LONGEST_TEXT];
-    let source = spell::to_js_string(v, &mut buffer);
-    let bytes = bytes_of(code, n, text, m, &buffer, source);
-    copy(dest, at, bytes);
-    at + bytes.len()
+    spell::write_spelling(code, n, text, m, spell::spell_value(v), dest, at)
 }
 
 pub enum Measured {
@@ -202,7 +193,11 @@ pub fn write_text<'a>(
     requires { ⌜ InUse (now code) n (now text) m ⌝ }
     ensures { λ r. ⌜ Writes (toJsString (storesOf (now (code .entry)) n (now (text .entry)) m) (valueOf v)) (now (buffer .entry)) r (now (buffer .exit)) ⌝ }
 {
-    let mut word = [0; LONGEST_TEXT];
-    let source = spell::to_js_string(v, &mut word);
-    write_bytes(bytes_of(code, n, text, m, &word, source), buffer)
+    let s = spell::spell_value(v);
+    let count = spell::spelling_size(n, m, s);
+    if buffer.len() < count {
+        return Formatted::TooShort;
+    }
+    spell::write_spelling(code, n, text, m, s, buffer, 0);
+    Formatted::Bytes(count)
 }

@@ -1,0 +1,4 @@
+pub mod Holds
+pub mod Constants
+pub mod Lookups
+pub mod Calls
