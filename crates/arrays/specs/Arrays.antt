@@ -23,9 +23,10 @@ use Rattle.value.specs.declared.Value.{Value}
 use Rattle.value.specs.declared.Value.the-variants.{Number}
 use Rattle.value.specs.declared.Space.the-variants.{Objects, Properties, Text}
 use Rattle.texts.specs.Keeps.{textLimit}
-use Rattle.texts.specs.Overwrite.{overwrite-length}
+use Rattle.number.specs.Layout.{Wrote}
+use Rattle.texts.specs.Overwrite.{overwrite, overwrite-length}
 use Rattle.heap.specs.Layout.{objectLimit, propertyLimit, propertiesAt, objectsAt}
-use Rattle.heap.specs.View.{Sized, Gives, kindAt, propertyOf, rowAt}
+use Rattle.heap.specs.View.{Sized, Gives, kindAt, propertyOf, rowAt, setRow}
 use Rattle.heap.specs.Laws.{withProperties}
 use Rattle.heap.specs.declared.Sizes.{Sizes}
 use Rattle.objects.specs.declared.Placed.the-variants.{Went, Refused}
@@ -235,3 +236,15 @@ module _ (z : Sizes) (w : List ℕ) (m : ℕ) (t : List ℕ) (good : Sized z w) 
           ∙ ap (λ (u : List (List ℕ × M.Value)). A.addProperties (z .objects) u (onStores y w₁ m t s)) whole-left
           ∙ ap (λ (u : St.State). A.addProperties (z .objects) (A.elements 0 elements) (Fi.setText (bytesOf t m) u)) (gives .state s)
           ∙ ap (λ (u : ℕ). A.addProperties u (A.elements 0 elements) (A.addKind St.array (onStores z w m t s))) (sym (used-objects s))
+
+-- an element's key is written straight to its place
+pub laid-element : (w t : List ℕ) (k id e i : ℕ) (v : Value) (bs : List ℕ) (end size : ℕ) (w′ t′ : List ℕ) → bs ≡ N.decimal i → Wrote bs t e t′ end → size ≡ end - e
+    → w′ ≡ setRow w k id e size v → Lays w k id (N.decimal i) v e t end w′ t′
+laid-element w t k id e i v bs end size w′ t′ b r s q =
+    let n : length bs ≡ length (N.decimal i) = ap length b in
+    let m : size ≡ length (N.decimal i) = omega (arith, r .place, n, s) in
+    record {
+      count = omega (arith, r .place, n);
+      row = q ∙ ap (λ (x : ℕ). setRow w k id e x v) m;
+      text = r .bytes ∙ ap (overwrite t e) b;
+    }

@@ -7,6 +7,7 @@ use heap::PROPERTIES_AT;
 use heap::PROPERTY_LIMIT;
 use heap::Sizes;
 use number::JsNumber;
+use number::format;
 use number::format::LONGEST_TEXT;
 use objects::Placed;
 use texts::Source;
@@ -37,7 +38,7 @@ ghost use Rattle.texts.specs.Keeps.{textLimit};
 ghost use Rattle.texts.specs.Spells.{Spells};
 ghost use Rattle.heap.specs.Layout.{propertyLimit};
 ghost use Rattle.heap.specs.View.{Sized};
-ghost use Rattle.objects.specs.View.{Puts};
+ghost use Rattle.objects.specs.View.{Puts, Lays};
 ghost use Rattle.arrays.specs.Keys.{keysSize};
 ghost use Rattle.arrays.specs.Arrays.{given, Laying};
 
@@ -91,6 +92,26 @@ fn element(stacks: &[u64], from: usize, argc: usize, i: usize) -> Value
     Value::Undefined
 }
 
+// An array's element as a property at place k of the heap; there is room for it, and its number is written behind the text in use.
+fn lay_element(
+    heap: &mut [u64],
+    k: usize,
+    text: &mut [u8],
+    e: usize,
+    id: u64,
+    i: usize,
+    v: Value,
+) -> usize
+    requires { ⌜ (k + 5 < length (now heap)) × (i < 65536) ⌝ }
+    requires { ⌜ (length (now text) ≡ textLimit) × (e + length (decimal i) ≤ textLimit) ⌝ }
+    ensures { λ r. ⌜ Lays (now (heap .entry)) k id (decimal i) v e (now (text .entry)) r (now (heap .exit)) (now (text .exit)) ⌝ }
+{
+    let l = JsNumber::js_int(i as u64).layout();
+    let end = format::write(l, text, e);
+    heap::write_row(heap, k, id, e as u64, (end - e) as u64, v);
+    end
+}
+
 // An array's elements as properties; there is room for them, and for its length. The new count of text is answered.
 fn lay_elements(
     z: Sizes,
@@ -108,14 +129,12 @@ fn lay_elements(
     requires { ⌜ (from + argc ≤ operandLimit) × (length (now stacks) ≡ stackWords) ⌝ }
     ensures { λ r. ⌜ Laying id (given argc (λ j. valueAt (now (stacks .entry)) (3 * (from + j)))) count z (now (heap .entry)) m (now (text .entry)) count r (now (heap .exit)) (now (text .exit)) ⌝ }
 {
-    let mut buffer = [0; LONGEST_TEXT];
     let mut i: usize = 0;
     let mut e = m;
     while i < count {
-        let key = element_key(i, &mut buffer);
         let v = element(stacks, from, argc, i);
         let k = PROPERTIES_AT + 6 * (z.properties + i);
-        e = objects::lay_row(heap, k, b"", 0, text, e, &buffer, id, key, v);
+        e = lay_element(heap, k, text, e, id, i, v);
         i += 1;
     }
     e

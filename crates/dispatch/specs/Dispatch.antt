@@ -64,7 +64,7 @@ KeptBy x (Refused q) d w w′ = KeptOf (Refused q) d w w′
 KeptBy x (Register i t) d w w′ = KeptOf (Register i t) d w w′
 KeptBy x (Join a b) d w w′ = KeptOf (Join a b) d w w′
 KeptBy x (Print k) d w w′ = KeptOf (Print k) d w w′
-KeptBy x (More b) d w w′ = (w′ ≡ w) × View.Ready d w × Runs x d w × NoneOf b dispatched
+KeptBy x (More b) d w w′ = (w′ ≡ w) × View.Ready d w × Runs x d w × NoneOf b dispatched × (b < 256)
 
 pub record Dispatches (H : St.State → Type 0) (x : Running) (p : Program) (d : Depths) (w : List ℕ) (r : Stepped) (w′ : List ℕ) : Type 0 where
   pub goes : (s : St.State) → H s → Tells (r .how) (r .depths) w′ s (out p (View.onStacks d w s))
@@ -86,9 +86,9 @@ module _ {H : St.State → Type 0} {x : Running} {p : Program} {d : Depths} {w w
   pub by-any : Meets Any p d w r w′ → Dispatches H x p d w r w′
   by-any m = record { goes = λ s h. m .goes s tt; kept = kept-by x (r .how) (r .depths) w w′ (m .kept) }
 
-pub by-more : {H : St.State → Type 0} {x : Running} {b : ℕ} {d : Depths} {w : List ℕ} {r : Stepped} → View.Ready d w → Runs x d w → NoneOf b dispatched → r ≡ stepped d (More b)
+pub by-more : {H : St.State → Type 0} {x : Running} {b : ℕ} {d : Depths} {w : List ℕ} {r : Stepped} → View.Ready d w → Runs x d w → NoneOf b dispatched → b < 256 → r ≡ stepped d (More b)
     → Dispatches H x (I.instruction b) d w r w
-by-more {H} {x} {b} {d} {w} a q n e = subst (λ (y : Stepped). Dispatches H x (I.instruction b) d w y w) (sym e) (record { goes = λ s h. refl; kept = (refl, a, q, n) })
+by-more {H} {x} {b} {d} {w} a q n l e = subst (λ (y : Stepped). Dispatches H x (I.instruction b) d w y w) (sym e) (record { goes = λ s h. refl; kept = (refl, a, q, n, l) })
 
 -- A STEP: the machine's program for the state that stands
 pub record Steps (H : St.State → Type 0) (x : Running) (d : Depths) (w : List ℕ) (r : Stepped) (w′ : List ℕ) : Type 0 where

@@ -12,7 +12,7 @@ use stackops::control;
 use stackops::locals;
 use stacks::Depths;
 ghost use mathlib.Core.Path.{_≡_};
-ghost use Prim.Native.Nat.{ℕ};
+ghost use Prim.Native.Nat.{ℕ, _<_};
 ghost use Rattle.machine.specs.Instruction.{instruction};
 ghost use Rattle.texts.specs.Sources.{InUse};
 ghost use Rattle.stacks.specs.View.{Ready};
@@ -34,6 +34,7 @@ pub fn execute<'a>(
     requires { ⌜ Ready d (now stacks) ⌝ }
     requires { ⌜ Runs x d (now stacks) ⌝ }
     requires { ⌜ InUse (now code) n (now text) m ⌝ }
+    requires { ⌜ op < 256 ⌝ }
     ensures { λ r. ⌜ Dispatches (Held x n (now (code .entry)) (now (places .entry)) m (now (text .entry))) x (instruction op) d (now (stacks .entry)) r (now (stacks .exit)) ⌝ }
 {
     match op {

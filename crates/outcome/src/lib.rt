@@ -88,10 +88,7 @@ pub fn failed(e: JsVmError, d: Depths) -> Stepped
 pub fn left_to_do(how: Part, d: Depths) -> Stepped
     ensures { λ x. ⌜ x ≡ stepped d how ⌝ }
 {
-    Stepped {
-        depths: d,
-        how,
-    }
+    Stepped { depths: d, how }
 }
 
 // Error 15: whatever stood is popped.

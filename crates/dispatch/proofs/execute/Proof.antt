@@ -219,7 +219,7 @@ same-length-10 : tie.Need-same-length-10
 same-length-10 c = search needs
 
 returns-10 : tie.Need-returns-10
-returns-10 c = rw (c .before .before .before .before .match .keys10) (by-meets to-texts (c .before .before .not .ensures (now (c .before .before .before .before .before .before .before .before .before .args .code)) (now (c .before .before .before .before .before .before .before .before .before .args .text)) (c .before .before .before .before .before .before .before .before .before .pre .1 .1)))
+returns-10 c = rw (c .before .before .before .before .match .keys10) (by-meets to-texts (c .before .before .not .ensures (now (c .before .before .before .before .before .before .before .before .before .args .code)) (now (c .before .before .before .before .before .before .before .before .before .args .text)) (c .before .before .before .before .before .before .before .before .before .pre .1 .1 .0)))
 
 same-length-11 : tie.Need-same-length-11
 same-length-11 c = search needs
@@ -303,13 +303,13 @@ same-length-24 : tie.Need-same-length-24
 same-length-24 c = search needs
 
 returns-24 : tie.Need-returns-24
-returns-24 c = rw (c .before .before .before .before .match .keys24) (by-meets to-texts (c .before .before .logical-and .ensures (now (c .before .before .before .before .before .before .before .before .before .args .code)) (now (c .before .before .before .before .before .before .before .before .before .args .text)) (c .before .before .before .before .before .before .before .before .before .pre .1 .1)))
+returns-24 c = rw (c .before .before .before .before .match .keys24) (by-meets to-texts (c .before .before .logical-and .ensures (now (c .before .before .before .before .before .before .before .before .before .args .code)) (now (c .before .before .before .before .before .before .before .before .before .args .text)) (c .before .before .before .before .before .before .before .before .before .pre .1 .1 .0)))
 
 same-length-25 : tie.Need-same-length-25
 same-length-25 c = search needs
 
 returns-25 : tie.Need-returns-25
-returns-25 c = rw (c .before .before .before .before .match .keys25) (by-meets to-texts (c .before .before .logical-or .ensures (now (c .before .before .before .before .before .before .before .before .before .args .code)) (now (c .before .before .before .before .before .before .before .before .before .args .text)) (c .before .before .before .before .before .before .before .before .before .pre .1 .1)))
+returns-25 c = rw (c .before .before .before .before .match .keys25) (by-meets to-texts (c .before .before .logical-or .ensures (now (c .before .before .before .before .before .before .before .before .before .args .code)) (now (c .before .before .before .before .before .before .before .before .before .args .text)) (c .before .before .before .before .before .before .before .before .before .pre .1 .1 .0)))
 
 returns-26 : tie.Need-returns-26
 returns-26 c = rw (c .before .match .keys26) (by-meets to-coded (c .jump .ensures (now (c .before .before .before .before .before .before .args .stacks)) (c .before .before .before .before .before .before .pre .1 .0)))
@@ -318,13 +318,13 @@ same-length-26 : tie.Need-same-length-26
 same-length-26 c = search needs
 
 returns-27 : tie.Need-returns-27
-returns-27 c = rw (c .before .before .match .keys27) (by-meets to-coded-text (c .jump-if-false .ensures (now (c .before .before .before .before .before .before .before .args .text)) (c .before .before .before .before .before .before .before .pre .1 .1 .text)))
+returns-27 c = rw (c .before .before .match .keys27) (by-meets to-coded-text (c .jump-if-false .ensures (now (c .before .before .before .before .before .before .before .args .text)) (c .before .before .before .before .before .before .before .pre .1 .1 .0 .text)))
 
 same-length-27 : tie.Need-same-length-27
 same-length-27 c = search needs
 
 returns-28 : tie.Need-returns-28
-returns-28 c = rw (c .before .before .match .keys28) (by-meets to-coded-text (c .jump-if-true .ensures (now (c .before .before .before .before .before .before .before .args .text)) (c .before .before .before .before .before .before .before .pre .1 .1 .text)))
+returns-28 c = rw (c .before .before .match .keys28) (by-meets to-coded-text (c .jump-if-true .ensures (now (c .before .before .before .before .before .before .before .args .text)) (c .before .before .before .before .before .before .before .pre .1 .1 .0 .text)))
 
 same-length-28 : tie.Need-same-length-28
 same-length-28 c = search needs
@@ -384,7 +384,7 @@ returns-38 : tie.Need-returns-38
 returns-38 c = rw (c .before .before .match .keys38) (by-any (c .halt .ensures))
 
 returns-39 : tie.Need-returns-39
-returns-39 c = by-more (c .before .before .before .before .before .before .pre .0) (c .before .before .before .before .before .before .pre .1 .0) ((c .before .match .rest .0 .0 .0 .0 .0 .0 .0 .0 .0 .0 .0 .0 .0 .0 .0 .0 .0 .0 .0 .0 .0 .0 .0 .0 .0 .0 .0 .0 .0 .0 .0 .0 .0 .0 .0 .0 .0 .1), ((c .before .match .rest .0 .0 .0 .0 .0 .0 .0 .0 .0 .0 .0 .0 .0 .0 .0 .0 .0 .0 .0 .0 .0 .0 .0 .0 .0 .0 .0 .0 .0 .0 .0 .0 .0 .0 .0 .0 .1), ((c .before .match .rest .0 .0 .0 .0 .0 .0 .0 .0 .0 .0 .0 .0 .0 .0 .0 .0 .0 .0 .0 .0 .0 .0 .0 .0 .0 .0 .0 .0 .0 .0 .0 .0 .0 .0 .0 .1), ((c .before .match .rest .0 .0 .0 .0 .0 .0 .0 .0 .0 .0 .0 .0 .0 .0 .0 .0 .0 .0 .0 .0 .0 .0 .0 .0 .0 .0 .0 .0 .0 .0 .0 .0 .0 .0 .1), ((c .before .match .rest .0 .0 .0 .0 .0 .0 .0 .0 .0 .0 .0 .0 .0 .0 .0 .0 .0 .0 .0 .0 .0 .0 .0 .0 .0 .0 .0 .0 .0 .0 .0 .0 .0 .1), ((c .before .match .rest .0 .0 .0 .0 .0 .0 .0 .0 .0 .0 .0 .0 .0 .0 .0 .0 .0 .0 .0 .0 .0 .0 .0 .0 .0 .0 .0 .0 .0 .0 .0 .0 .1), ((c .before .match .rest .0 .0 .0 .0 .0 .0 .0 .0 .0 .0 .0 .0 .0 .0 .0 .0 .0 .0 .0 .0 .0 .0 .0 .0 .0 .0 .0 .0 .0 .0 .0 .1), ((c .before .match .rest .0 .0 .0 .0 .0 .0 .0 .0 .0 .0 .0 .0 .0 .0 .0 .0 .0 .0 .0 .0 .0 .0 .0 .0 .0 .0 .0 .0 .0 .0 .1), ((c .before .match .rest .0 .0 .0 .0 .0 .0 .0 .0 .0 .0 .0 .0 .0 .0 .0 .0 .0 .0 .0 .0 .0 .0 .0 .0 .0 .0 .0 .0 .0 .1), ((c .before .match .rest .0 .0 .0 .0 .0 .0 .0 .0 .0 .0 .0 .0 .0 .0 .0 .0 .0 .0 .0 .0 .0 .0 .0 .0 .0 .0 .0 .0 .1), ((c .before .match .rest .0 .0 .0 .0 .0 .0 .0 .0 .0 .0 .0 .0 .0 .0 .0 .0 .0 .0 .0 .0 .0 .0 .0 .0 .0 .0 .0 .1), ((c .before .match .rest .0 .0 .0 .0 .0 .0 .0 .0 .0 .0 .0 .0 .0 .0 .0 .0 .0 .0 .0 .0 .0 .0 .0 .0 .0 .0 .1), ((c .before .match .rest .0 .0 .0 .0 .0 .0 .0 .0 .0 .0 .0 .0 .0 .0 .0 .0 .0 .0 .0 .0 .0 .0 .0 .0 .0 .1), ((c .before .match .rest .0 .0 .0 .0 .0 .0 .0 .0 .0 .0 .0 .0 .0 .0 .0 .0 .0 .0 .0 .0 .0 .0 .0 .0 .1), ((c .before .match .rest .0 .0 .0 .0 .0 .0 .0 .0 .0 .0 .0 .0 .0 .0 .0 .0 .0 .0 .0 .0 .0 .0 .0 .1), ((c .before .match .rest .0 .0 .0 .0 .0 .0 .0 .0 .0 .0 .0 .0 .0 .0 .0 .0 .0 .0 .0 .0 .0 .0 .1), ((c .before .match .rest .0 .0 .0 .0 .0 .0 .0 .0 .0 .0 .0 .0 .0 .0 .0 .0 .0 .0 .0 .0 .0 .1), ((c .before .match .rest .0 .0 .0 .0 .0 .0 .0 .0 .0 .0 .0 .0 .0 .0 .0 .0 .0 .0 .0 .0 .1), ((c .before .match .rest .0 .0 .0 .0 .0 .0 .0 .0 .0 .0 .0 .0 .0 .0 .0 .0 .0 .0 .0 .1), ((c .before .match .rest .0 .0 .0 .0 .0 .0 .0 .0 .0 .0 .0 .0 .0 .0 .0 .0 .0 .0 .1), ((c .before .match .rest .0 .0 .0 .0 .0 .0 .0 .0 .0 .0 .0 .0 .0 .0 .0 .0 .0 .1), ((c .before .match .rest .0 .0 .0 .0 .0 .0 .0 .0 .0 .0 .0 .0 .0 .0 .0 .0 .1), ((c .before .match .rest .0 .0 .0 .0 .0 .0 .0 .0 .0 .0 .0 .0 .0 .0 .0 .1), ((c .before .match .rest .0 .0 .0 .0 .0 .0 .0 .0 .0 .0 .0 .0 .0 .0 .1), ((c .before .match .rest .0 .0 .0 .0 .0 .0 .0 .0 .0 .0 .0 .0 .0 .1), ((c .before .match .rest .0 .0 .0 .0 .0 .0 .0 .0 .0 .0 .0 .0 .1), ((c .before .match .rest .0 .0 .0 .0 .0 .0 .0 .0 .0 .0 .0 .1), ((c .before .match .rest .0 .0 .0 .0 .0 .0 .0 .0 .0 .0 .1), ((c .before .match .rest .0 .0 .0 .0 .0 .0 .0 .0 .0 .1), ((c .before .match .rest .0 .0 .0 .0 .0 .0 .0 .0 .1), ((c .before .match .rest .0 .0 .0 .0 .0 .0 .0 .1), ((c .before .match .rest .0 .0 .0 .0 .0 .0 .1), ((c .before .match .rest .0 .0 .0 .0 .0 .1), ((c .before .match .rest .0 .0 .0 .0 .1), ((c .before .match .rest .0 .0 .0 .1), ((c .before .match .rest .0 .0 .1), ((c .before .match .rest .0 .1), ((c .before .match .rest .1), tt)))))))))))))))))))))))))))))))))))))) (c .left-to-do .ensures)
+returns-39 c = by-more (c .before .before .before .before .before .before .pre .0) (c .before .before .before .before .before .before .pre .1 .0) ((c .before .match .rest .0 .0 .0 .0 .0 .0 .0 .0 .0 .0 .0 .0 .0 .0 .0 .0 .0 .0 .0 .0 .0 .0 .0 .0 .0 .0 .0 .0 .0 .0 .0 .0 .0 .0 .0 .0 .0 .1), ((c .before .match .rest .0 .0 .0 .0 .0 .0 .0 .0 .0 .0 .0 .0 .0 .0 .0 .0 .0 .0 .0 .0 .0 .0 .0 .0 .0 .0 .0 .0 .0 .0 .0 .0 .0 .0 .0 .0 .1), ((c .before .match .rest .0 .0 .0 .0 .0 .0 .0 .0 .0 .0 .0 .0 .0 .0 .0 .0 .0 .0 .0 .0 .0 .0 .0 .0 .0 .0 .0 .0 .0 .0 .0 .0 .0 .0 .0 .1), ((c .before .match .rest .0 .0 .0 .0 .0 .0 .0 .0 .0 .0 .0 .0 .0 .0 .0 .0 .0 .0 .0 .0 .0 .0 .0 .0 .0 .0 .0 .0 .0 .0 .0 .0 .0 .0 .1), ((c .before .match .rest .0 .0 .0 .0 .0 .0 .0 .0 .0 .0 .0 .0 .0 .0 .0 .0 .0 .0 .0 .0 .0 .0 .0 .0 .0 .0 .0 .0 .0 .0 .0 .0 .0 .1), ((c .before .match .rest .0 .0 .0 .0 .0 .0 .0 .0 .0 .0 .0 .0 .0 .0 .0 .0 .0 .0 .0 .0 .0 .0 .0 .0 .0 .0 .0 .0 .0 .0 .0 .0 .1), ((c .before .match .rest .0 .0 .0 .0 .0 .0 .0 .0 .0 .0 .0 .0 .0 .0 .0 .0 .0 .0 .0 .0 .0 .0 .0 .0 .0 .0 .0 .0 .0 .0 .0 .1), ((c .before .match .rest .0 .0 .0 .0 .0 .0 .0 .0 .0 .0 .0 .0 .0 .0 .0 .0 .0 .0 .0 .0 .0 .0 .0 .0 .0 .0 .0 .0 .0 .0 .1), ((c .before .match .rest .0 .0 .0 .0 .0 .0 .0 .0 .0 .0 .0 .0 .0 .0 .0 .0 .0 .0 .0 .0 .0 .0 .0 .0 .0 .0 .0 .0 .0 .1), ((c .before .match .rest .0 .0 .0 .0 .0 .0 .0 .0 .0 .0 .0 .0 .0 .0 .0 .0 .0 .0 .0 .0 .0 .0 .0 .0 .0 .0 .0 .0 .1), ((c .before .match .rest .0 .0 .0 .0 .0 .0 .0 .0 .0 .0 .0 .0 .0 .0 .0 .0 .0 .0 .0 .0 .0 .0 .0 .0 .0 .0 .0 .1), ((c .before .match .rest .0 .0 .0 .0 .0 .0 .0 .0 .0 .0 .0 .0 .0 .0 .0 .0 .0 .0 .0 .0 .0 .0 .0 .0 .0 .0 .1), ((c .before .match .rest .0 .0 .0 .0 .0 .0 .0 .0 .0 .0 .0 .0 .0 .0 .0 .0 .0 .0 .0 .0 .0 .0 .0 .0 .0 .1), ((c .before .match .rest .0 .0 .0 .0 .0 .0 .0 .0 .0 .0 .0 .0 .0 .0 .0 .0 .0 .0 .0 .0 .0 .0 .0 .0 .1), ((c .before .match .rest .0 .0 .0 .0 .0 .0 .0 .0 .0 .0 .0 .0 .0 .0 .0 .0 .0 .0 .0 .0 .0 .0 .0 .1), ((c .before .match .rest .0 .0 .0 .0 .0 .0 .0 .0 .0 .0 .0 .0 .0 .0 .0 .0 .0 .0 .0 .0 .0 .0 .1), ((c .before .match .rest .0 .0 .0 .0 .0 .0 .0 .0 .0 .0 .0 .0 .0 .0 .0 .0 .0 .0 .0 .0 .0 .1), ((c .before .match .rest .0 .0 .0 .0 .0 .0 .0 .0 .0 .0 .0 .0 .0 .0 .0 .0 .0 .0 .0 .0 .1), ((c .before .match .rest .0 .0 .0 .0 .0 .0 .0 .0 .0 .0 .0 .0 .0 .0 .0 .0 .0 .0 .0 .1), ((c .before .match .rest .0 .0 .0 .0 .0 .0 .0 .0 .0 .0 .0 .0 .0 .0 .0 .0 .0 .0 .1), ((c .before .match .rest .0 .0 .0 .0 .0 .0 .0 .0 .0 .0 .0 .0 .0 .0 .0 .0 .0 .1), ((c .before .match .rest .0 .0 .0 .0 .0 .0 .0 .0 .0 .0 .0 .0 .0 .0 .0 .0 .1), ((c .before .match .rest .0 .0 .0 .0 .0 .0 .0 .0 .0 .0 .0 .0 .0 .0 .0 .1), ((c .before .match .rest .0 .0 .0 .0 .0 .0 .0 .0 .0 .0 .0 .0 .0 .0 .1), ((c .before .match .rest .0 .0 .0 .0 .0 .0 .0 .0 .0 .0 .0 .0 .0 .1), ((c .before .match .rest .0 .0 .0 .0 .0 .0 .0 .0 .0 .0 .0 .0 .1), ((c .before .match .rest .0 .0 .0 .0 .0 .0 .0 .0 .0 .0 .0 .1), ((c .before .match .rest .0 .0 .0 .0 .0 .0 .0 .0 .0 .0 .1), ((c .before .match .rest .0 .0 .0 .0 .0 .0 .0 .0 .0 .1), ((c .before .match .rest .0 .0 .0 .0 .0 .0 .0 .0 .1), ((c .before .match .rest .0 .0 .0 .0 .0 .0 .0 .1), ((c .before .match .rest .0 .0 .0 .0 .0 .0 .1), ((c .before .match .rest .0 .0 .0 .0 .0 .1), ((c .before .match .rest .0 .0 .0 .0 .1), ((c .before .match .rest .0 .0 .0 .1), ((c .before .match .rest .0 .0 .1), ((c .before .match .rest .0 .1), ((c .before .match .rest .1), tt)))))))))))))))))))))))))))))))))))))) (c .before .before .before .before .before .before .pre .1 .1 .1) (c .left-to-do .ensures)
 
 pub execute-spec : {M : Type 1} → statement M
 execute-spec =

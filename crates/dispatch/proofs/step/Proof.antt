@@ -1,7 +1,7 @@
 use borrow.Author.Needs.{needs}
 use denote.Ref.{now}
 use Rattle.dispatch.specs.Dispatch.{step-none, step-out, step-go, to-coded}
-use Rattle.fetch.specs.Running.{got-ready, got-runs}
+use Rattle.fetch.specs.Running.{got, got-ready, got-runs}
 use Rattle.dispatch.proofs.step.Statement.{statement}
 use Rattle.dispatch.proofs.step.Tie as tie
 use Rattle.dispatch.proofs.step.Reads as reads
@@ -43,7 +43,7 @@ returns-2 : tie.Need-returns-2
 returns-2 c = step-out to-coded (c .before .before .before .before .before .before .before .before .before .before .before .before .pre .1 .0 (c .before .before .before .before .before .before .if1 .left)) (c .before .before .before .before .before .fetch .ensures) (c .before .before .before .enum-told .given .1) (c .before .pop-frame .ensures) (c .went .ensures)
 
 execute-requires : tie.Need-execute-requires
-execute-requires c κs = (got-ready (c .before .before .before .before .fetch .ensures) (c .before .before .op .given .1) (c .before .before .before .before .before .before .before .before .before .before .before .pre .0), (got-runs (c .before .before .before .before .fetch .ensures) (c .before .before .op .given .1) (c .before .before .before .before .before .before .before .before .before .before .before .pre .1 .0 (c .before .before .before .before .before .if1 .left)), c .before .before .before .before .before .before .before .before .before .before .before .pre .1 .1))
+execute-requires c κs = (got-ready (c .before .before .before .before .fetch .ensures) (c .before .before .op .given .1) (c .before .before .before .before .before .before .before .before .before .before .before .pre .0), (got-runs (c .before .before .before .before .fetch .ensures) (c .before .before .op .given .1) (c .before .before .before .before .before .before .before .before .before .before .before .pre .1 .0 (c .before .before .before .before .before .if1 .left)), (c .before .before .before .before .before .before .before .before .before .before .before .pre .1 .1, got (c .before .before .before .before .fetch .ensures) (c .before .before .op .given .1) .1)))
 
 same-length-3 : tie.Need-same-length-3
 same-length-3 c = search needs

@@ -1,0 +1,4 @@
+pub mod Turns
+pub mod Follows
+pub mod Makes
+pub mod Stores

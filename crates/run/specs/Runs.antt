@@ -1,0 +1,260 @@
+-- A run, step by step. Assumes nothing.
+use Prim.Native.Nat.{ℕ, zero, suc, _+_, _-_, _≤_, _<_}
+use native.Mathlib.Omega.{arith}
+use mathlib.Core.List.{List, []}
+use mathlib.Core.Path.{_≡_, refl, sym, ap, subst, _∙_}
+use lib.ListN.{length, getD}
+use Rattle.machine.specs.Fields as Fi
+use Rattle.machine.specs.Image as Im
+use Rattle.machine.specs.State as St
+use Rattle.machine.specs.State.{limit, codeStore, imageStore}
+use Rattle.machine.specs.Error.{executionLimitExceeded}
+use Rattle.machine.specs.Program as P
+use Rattle.machine.specs.Program.{Program}
+use Rattle.machine.specs.Run as R
+use Rattle.machine.specs.Out.{Out, outOf, went, ended, refused, out}
+use Rattle.machine.proofs.Bounded.{Bounded}
+use Rattle.value.specs.Errors.{errorOf, spaceOf}
+use Rattle.value.specs.Lists.{bytesOf, row-length, stack-length}
+use Rattle.value.specs.Words.{valueOf}
+use Rattle.value.specs.declared.JsVmError.the-variants.{ExecutionLimitExceeded}
+use Rattle.value.specs.declared.Space.{Space}
+use Rattle.texts.specs.Keeps.{textLimit, outputLimit}
+use Rattle.texts.specs.Sources.{InUse}
+use Rattle.stacks.specs.Layout.{stackWords}
+use Rattle.stacks.specs.Laws.{top-length}
+use Rattle.stacks.specs.View as Stacks
+use Rattle.stacks.specs.declared.Depths.{Depths}
+use Rattle.heap.specs.Layout.{heapWords}
+use Rattle.heap.specs.View.{Sized}
+use Rattle.image.specs.View.{imagesOf}
+use Rattle.image.specs.Load.{templateFrom}
+use Rattle.outcome.specs.Meets.{endOf}
+use Rattle.outcome.specs.Meets as Part
+use Rattle.outcome.specs.declared.End.{End}
+use Rattle.outcome.specs.declared.End.the-variants.{Finished as End·Finished, Failed as End·Failed}
+use Rattle.outcome.specs.declared.Part.{Part}
+use Rattle.outcome.specs.declared.Part.the-variants.{Went as Part·Went, Ended as Part·Ended, Refused as Part·Refused, Register, Join, Print, More}
+use Rattle.outcome.specs.declared.Stepped.{Stepped}
+use Rattle.fetch.specs.declared.Running.{Running}
+use Rattle.fetch.specs.Running.{Runs, Known, Current, Coded, Pooled}
+use Rattle.readops.specs.Holds.{Constants}
+use Rattle.dispatch.specs.Dispatch.{Held, Steps, KeptBy}
+use Rattle.heapops.specs.declared.Counts.{Counts}
+use Rattle.heapops.specs.declared.How.{How}
+use Rattle.heapops.specs.declared.How.the-variants.{Went, Ended, Refused}
+use Rattle.heapops.specs.declared.Turned.{Turned}
+use Rattle.heapops.specs.Turns.{Mem, mem, below, stateOf, withDepths, Tells, KeptOf}
+use Rattle.finish.specs.Parts.{Tables, Ground, Finishes, withStacks, partOut, told, LeftBy, LeftReady}
+use Rattle.run.specs.Bounds.{went-bounded}
+use Rattle.run.specs.declared.Ending.{Ending}
+use Rattle.run.specs.declared.Ending.the-variants.{Finished, Failed, Full}
+use Rattle.run.specs.declared.Ran.{Ran}
+
+abbrev pub resultOf : Ending → R.Result
+resultOf (Finished v) = R.ended (P.finished (valueOf v))
+resultOf (Failed e) = R.ended (P.failed (errorOf e))
+resultOf (Full q) = R.full (spaceOf q)
+
+abbrev pub endingOf : End → Ending
+endingOf (End·Finished v) = Finished v
+endingOf (End·Failed e) = Failed e
+
+pub ending-is : (e : End) → resultOf (endingOf e) ≡ R.ended (endOf e)
+ending-is (End·Finished v) = refl
+ending-is (End·Failed e) = refl
+
+-- what is seen of a run: its steps, its result, and the state that it leaves
+pub record Told : Type 0 where
+  pub made : ℕ
+  pub result : R.Result
+  pub state : St.State
+
+abbrev pub tell : ℕ → R.Result → St.State → Told
+tell n e s = record { made = n; result = e; state = s }
+
+abbrev pub thenDo : Out → ℕ → St.State → (St.State → Told) → Told
+thenDo (went t) n s k = k t
+thenDo (ended e t) n s k = tell n (R.ended e) t
+thenDo (refused q) n s k = tell n (R.full q) s
+
+abbrev pub programOf : St.State → Program
+programOf s = R.body (R.kindOf s)
+
+-- k steps may still be made, and n have been
+unfoldable pub runOf : ℕ → ℕ → St.State → Told
+runOf zero n s = tell n (R.ended (P.failed executionLimitExceeded)) s
+runOf (suc k) n s = thenDo (out (programOf s) s) (n + 1) s (λ t. runOf k (n + 1) t)
+
+-- It is the machine's run.
+abbrev pub seen : R.Ran → Told
+seen r = tell (r .made) (r .result) (r .state)
+
+one : (h : P.How) (n : ℕ) (s t : St.State) (r : R.Ran) (k : St.State → Told) → k (R.settled s h t) ≡ seen r → thenDo (outOf h t) n s k ≡ seen (R.goOn h n (R.settled s h t) r)
+one P.How.went n s t r k e = e
+one (P.How.ended x) n s t r k e = refl
+one (P.How.refused q) n s t r k e = refl
+
+pub run-is : (k n : ℕ) (s : St.State) → runOf k n s ≡ seen (R.steps k n s)
+unfolding runOf out
+run-is zero n s = refl
+run-is (suc k) n s =
+    let o = P.exec (programOf s) s in
+    one (o .how) (n + 1) s (o .state) (R.steps k (n + 1) (R.after s o)) (λ t. runOf k (n + 1) t) (run-is k (n + 1) (R.after s o))
+
+-- every store has its size, and every count is within it
+pub record Whole (c : Counts) (g : Tables) (m : Mem) (s : St.State) : Type 0 where
+  pub bounded : Bounded (stateOf c m s)
+  pub code : s .code ≡ bytesOf (g .code) (c .code)
+  pub images : s .images ≡ imagesOf (g .code) (g .places) (g .rows) (g .starts) (c .images)
+  pub codes : length (g .code) ≡ limit codeStore
+  pub stacks : length (m .stacks) ≡ stackWords
+  pub heap : length (m .heap) ≡ heapWords
+  pub text : length (m .text) ≡ textLimit
+  pub output : length (m .output) ≡ outputLimit
+
+module _ {c : Counts} {g : Tables} {m : Mem} {s : St.State} (f : Whole c g m s) where
+  pub whole-ready : Stacks.Ready (c .depths) (m .stacks)
+  whole-ready = let b = f .bounded in record {
+    operands = rw stack-length at (b .operands);
+    slots = rw row-length at (b .slots);
+    frames = rw (top-length, stack-length) at (b .frames);
+    handlers = rw stack-length at (b .handlers);
+    size = f .stacks;
+  }
+
+  pub whole-sized : Sized (c .sizes) (m .heap)
+  whole-sized = let b = f .bounded in record {
+    functions = rw row-length at (b .functions);
+    objects = rw row-length at (b .objects);
+    properties = rw row-length at (b .properties);
+    globals = rw row-length at (b .globals);
+    size = f .heap;
+  }
+
+  pub whole-code : c .code ≤ length (g .code)
+  whole-code =
+      let k : length (s .code) ≡ c .code = ap length (f .code) ∙ row-length (c .code) (λ i. getD (g .code) i 0) in
+      omega (arith, f .bounded .code, f .codes, k)
+
+  pub whole-text : (c .text ≤ textLimit) × (length (m .text) ≡ textLimit)
+  whole-text = (rw row-length at (f .bounded .text), f .text)
+
+  pub whole-output : (c .output ≤ outputLimit) × (length (m .output) ≡ outputLimit)
+  whole-output = (rw row-length at (f .bounded .output), f .output)
+
+  pub whole-use : InUse (g .code) (c .code) (m .text) (c .text)
+  whole-use = record { code = whole-code; text = omega (arith, whole-text .0, whole-text .1) }
+
+-- what the stacks' step is told of the rest of the state
+module _ {c : Counts} {g : Tables} {m : Mem} {s : St.State} {x : Running} (f : Whole c g m s) (k : Known (g .rows) (g .starts) (c .images) x) where
+  template-is : St.templateOf s (x .image) (x .template) ≡ templateFrom (g .code) (g .places) (x .shape)
+  template-is = ap (λ (y : List (List Im.Template)). getD (getD y (x .image) []) (x .template) St.noTemplate) (f .images) ∙ sym (k .shape (g .code) (g .places))
+
+  pub whole-held : Held x (c .code) (g .code) (g .places) (c .text) (m .text) (below c m s)
+  whole-held = record {
+    constants = record {
+      coded = record { code = f .code; at = ap (λ (t : Im.Template). t .at) template-is; size = ap (λ (t : Im.Template). t .size) template-is };
+      pooled = record { constants = ap (λ (t : Im.Template). t .constants) template-is };
+    };
+    text = refl;
+  }
+
+  pub whole-ground : Ground x c g s
+  whole-ground = record { code = f .code; images = f .images; known = k }
+
+-- what a step on the stacks leaves ready
+pub left-by : (x : Running) (h : Part) (d : Depths) (w w′ : List ℕ) → KeptBy x h d w w′ → LeftBy x h d w′
+left-by x Part·Went d w w′ k = tt
+left-by x (Part·Ended e) d w w′ k = tt
+left-by x (Part·Refused q) d w w′ k = tt
+left-by x (Register i t) d w w′ k = subst (λ (u : List ℕ). Stacks.Ready d u) (sym (k .0)) (k .1)
+left-by x (Join a b) d w w′ k = subst (λ (u : List ℕ). Stacks.Ready d u) (sym (k .0)) (k .1)
+left-by x (Print n) d w w′ k = subst (λ (u : List ℕ). Stacks.Ready d u × (d .operands + 1 + n ≤ St.operandLimit)) (sym (k .0)) (k .1, k .2)
+left-by x (More b) d w w′ k = subst (λ (u : List ℕ). LeftBy x (More b) d u) (sym (k .0)) (record { ready = k .1; runs = k .2; none = k .3; small = k .4 })
+
+-- THE LAW OF THE LOOP: after k steps, what is left gives what the whole gives
+pub record Underway (all : Told) (k : ℕ) (c : Counts) (g : Tables) (m : Mem) (s : St.State) : Type 0 where
+  pub left : runOf (100000 - k) k (stateOf c m s) ≡ all
+  pub whole : Whole c g m s
+
+pub stops : {all : Told} {k : ℕ} {c : Counts} {g : Tables} {m : Mem} {s : St.State} → Underway all k c g m s → k ≡ 100000 → tell k (resultOf (Failed ExecutionLimitExceeded)) (stateOf c m s) ≡ all
+unfolding runOf
+stops {k = k} u e = let z : 100000 - k ≡ 0 = omega arith in rw z at (u .left)
+
+module _ {all : Told} {k : ℕ} {c : Counts} {g : Tables} {m : Mem} {s : St.State} {x : Running} {r : Stepped} {w′ : List ℕ}
+    (u : Underway all k c g m s) (l : k < 100000) (n : Known (g .rows) (g .starts) (c .images) x)
+    (st : Steps (Held x (c .code) (g .code) (g .places) (c .text) (m .text)) x (c .depths) (m .stacks) r w′) where
+  more : thenDo (out (programOf (stateOf c m s)) (stateOf c m s)) (k + 1) (stateOf c m s) (λ t. runOf (100000 - (k + 1)) (k + 1) t) ≡ all
+  unfolding runOf
+  more = let e : 100000 - k ≡ suc (100000 - (k + 1)) = omega arith in rw e at (u .left)
+
+  step-out : out (programOf (stateOf c m s)) (stateOf c m s) ≡ partOut (r .how) (r .depths) w′ (below c m s)
+  step-out = told (r .how) (r .depths) w′ (below c m s) _ (st .goes (below c m s) (whole-held (u .whole) n))
+
+  pub left-ready : LeftBy x (r .how) (r .depths) w′
+  left-ready = left-by x (r .how) (r .depths) (m .stacks) w′ (st .kept)
+
+  whole-more : (e : Counts) (m′ : Mem) → out (programOf (stateOf c m s)) (stateOf c m s) ≡ went (stateOf e m′ s) → e .code ≡ c .code → e .images ≡ c .images
+      → length (m′ .stacks) ≡ length (m .stacks) → length (m′ .heap) ≡ length (m .heap) → length (m′ .text) ≡ length (m .text) → length (m′ .output) ≡ length (m .output) → Whole e g m′ s
+  whole-more e m′ o a b p q t v = let f = u .whole in record {
+    bounded = went-bounded (stateOf e m′ s) (programOf (stateOf c m s)) (stateOf c m s) o (f .bounded);
+    code = f .code ∙ ap (bytesOf (g .code)) (sym a);
+    images = f .images ∙ ap (imagesOf (g .code) (g .places) (g .rows) (g .starts)) (sym b);
+    codes = f .codes;
+    stacks = p ∙ f .stacks;
+    heap = q ∙ f .heap;
+    text = t ∙ f .text;
+    output = v ∙ f .output;
+  }
+
+  goes : (e : Counts) (m′ : Mem) → out (programOf (stateOf c m s)) (stateOf c m s) ≡ went (stateOf e m′ s) → runOf (100000 - (k + 1)) (k + 1) (stateOf e m′ s) ≡ all
+  goes e m′ o = ap (λ (y : Out). thenDo y (k + 1) (stateOf c m s) (λ t. runOf (100000 - (k + 1)) (k + 1) t)) (sym o) ∙ more
+
+  -- on the stacks alone
+  pub stacks-on : {b : Counts} → b ≡ withDepths (r .depths) c → r .how ≡ Part·Went → length w′ ≡ length (m .stacks) → Underway all (k + 1) b g (withStacks w′ m) s
+  stacks-on {b} z e q =
+      let o : out (programOf (stateOf c m s)) (stateOf c m s) ≡ went (stateOf (withDepths (r .depths) c) (withStacks w′ m) s)
+      = step-out ∙ ap (λ (h : Part). partOut h (r .depths) w′ (below c m s)) e in
+      subst (λ (y : Counts). Underway all (k + 1) y g (withStacks w′ m) s) (sym z)
+      (record { left = goes (withDepths (r .depths) c) (withStacks w′ m) o; whole = whole-more (withDepths (r .depths) c) (withStacks w′ m) o refl refl q refl refl refl })
+
+  pub known-on : {b : Counts} → b ≡ withDepths (r .depths) c → Known (g .rows) (g .starts) (b .images) x
+  known-on {b} z = subst (λ (i : ℕ). Known (g .rows) (g .starts) i x) (sym (ap (λ (y : Counts). y .images) z)) n
+
+  -- with the other stores
+  module _ {t : Turned} {m′ : Mem} (fin : Finishes (Ground x c g) x c (withStacks w′ m) r t m′) where
+    tells : Tells (t .how) (t .counts) m′ s (out (programOf (stateOf c m s)) (stateOf c m s))
+    tells = subst (Tells (t .how) (t .counts) m′ s) (sym step-out) (fin .goes s (whole-ground (u .whole) n))
+
+    pub goes-on : t .how ≡ Went → length (m′ .stacks) ≡ length (m .stacks) → length (m′ .heap) ≡ length (m .heap) → length (m′ .text) ≡ length (m .text) → length (m′ .output) ≡ length (m .output)
+        → Underway all (k + 1) (t .counts) g m′ s
+    goes-on e p q y v =
+        let o : out (programOf (stateOf c m s)) (stateOf c m s) ≡ went (stateOf (t .counts) m′ s) = subst (λ (h : How). Tells h (t .counts) m′ s (out (programOf (stateOf c m s)) (stateOf c m s))) e tells in
+        record { left = goes (t .counts) m′ o; whole = whole-more (t .counts) m′ o (fin .steady .0) (fin .steady .1) p q y v }
+
+    pub known-after : Known (g .rows) (g .starts) (t .counts .images) x
+    known-after = subst (λ (i : ℕ). Known (g .rows) (g .starts) i x) (sym (fin .steady .1)) n
+
+    pub finishes : {e : End} {z : Ending} → t .how ≡ Ended e → z ≡ endingOf e → tell (k + 1) (resultOf z) (stateOf (t .counts) m′ s) ≡ all
+    finishes {e} {z} h i =
+        let o : out (programOf (stateOf c m s)) (stateOf c m s) ≡ ended (endOf e) (stateOf (t .counts) m′ s) = subst (λ (h : How). Tells h (t .counts) m′ s (out (programOf (stateOf c m s)) (stateOf c m s))) h tells in
+        ap (λ (y : Ending). tell (k + 1) (resultOf y) (stateOf (t .counts) m′ s)) i ∙ ap (λ (y : R.Result). tell (k + 1) y (stateOf (t .counts) m′ s)) (ending-is e)
+        ∙ ap (λ (y : Out). thenDo y (k + 1) (stateOf c m s) (λ t. runOf (100000 - (k + 1)) (k + 1) t)) (sym o) ∙ more
+
+    pub refuses : {q : Space} → t .how ≡ Refused q → tell (k + 1) (resultOf (Full q)) (stateOf c m′ s) ≡ all
+    refuses {q} h =
+        let o : out (programOf (stateOf c m s)) (stateOf c m s) ≡ refused (spaceOf q) = subst (λ (h : How). Tells h (t .counts) m′ s (out (programOf (stateOf c m s)) (stateOf c m s))) h tells in
+        let same : KeptOf (Refused q) c (withStacks (m .stacks) (withStacks w′ m)) m′ = subst (λ (h : How). KeptOf h c (withStacks (m .stacks) (withStacks w′ m)) m′) h (fin .kept (m .stacks) (st .kept)) in
+        ap (λ (y : St.State). tell (k + 1) (R.full (spaceOf q)) y) (same (c .depths) s)
+        ∙ ap (λ (y : Out). thenDo y (k + 1) (stateOf c m s) (λ t. runOf (100000 - (k + 1)) (k + 1) t)) (sym o) ∙ more
+
+-- the state that the stores hold, with nothing else
+abbrev pub groundOf : Counts → Tables → St.State
+groundOf c g = Fi.setCode (bytesOf (g .code) (c .code)) (Fi.setImages (imagesOf (g .code) (g .places) (g .rows) (g .starts) (c .images)) St.fresh)
+
+abbrev pub stateIn : Counts → Tables → Mem → St.State
+stateIn c g m = stateOf c m (groundOf c g)
+
+abbrev pub ranOf : Ran → Counts → Tables → Mem → Told
+ranOf r c g m = tell (r .steps) (resultOf (r .end)) (stateOf (r .counts) m (groundOf c g))
