@@ -1,148 +1,14 @@
 //! Runs samples through the Rust of documents 000 to 002, and writes them with what came of them as a module of antt.
 
-use crate::images::{self, OPCODES};
+use crate::images;
+use crate::runs::{Both, Coverage};
 use crate::sample::{Action, Given, Plain, Rng, Sample};
-use crate::{plain, specials, stepped};
+use crate::{plain, specials};
 use std::fmt::Write;
-
-type Limited = stepped::js_vm::JsVmError;
-
-/// What the samples of a set made happen.
-#[derive(Default)]
-struct Coverage {
-    opcodes: Vec<usize>,
-    ends: Vec<usize>,
-    run_out: usize,
-    caught: usize,
-    steps: usize,
-    most: usize,
-    runs: usize,
-}
-
-impl Coverage {
-    fn new() -> Coverage {
-        Coverage { opcodes: vec![0; 256], ends: vec![0; 64], ..Coverage::default() }
-    }
-
-    fn add(&mut self, c: &Coverage) {
-        for i in 0..256 {
-            self.opcodes[i] += c.opcodes[i];
-        }
-        for i in 0..64 {
-            self.ends[i] += c.ends[i];
-        }
-        self.run_out += c.run_out;
-        self.caught += c.caught;
-        self.steps += c.steps;
-        self.runs += c.runs;
-        self.most = self.most.max(c.steps);
-    }
-}
-
-/// What a run is said to come to, beside what the unchanged js_vm gives.
-struct Observed {
-    steps: usize,
-    thrown: (Vec<u8>, String),
-    whose: Vec<(usize, usize)>,
-    handlers: Vec<[usize; 3]>,
-    text: usize,
-    end: Vec<u8>,
-    state: Vec<u8>,
-}
-
-/// The copy that makes one step at a time.
-struct Stepper {
-    engine: stepped::engine::Engine,
-    whose: Vec<(usize, usize)>,
-    /// The bytes of texts that Add and Typeof pushed and of those that the host gave.
-    made: usize,
-}
-
-impl Stepper {
-    fn text(&self) -> usize {
-        self.made + self.engine.key_bytes()
-    }
-
-    /// No added limit of document 01 is passed.
-    fn within(&self) -> bool {
-        let vm = &self.engine.vm;
-        vm.call_stack.len() <= 64
-            && self.engine.slots() <= 2048
-            && vm.handlers().len() <= 64
-            && vm.function_arena.len() <= 1024
-            && vm.object_arena.len() <= 512
-            && self.engine.properties() <= 1024
-            && vm.globals.len() <= 128
-            && self.text() <= 32768
-            && self.engine.output_bytes() <= 8192
-    }
-
-    /// None where a run is too long or would meet an added limit.
-    fn run(&mut self, sample: &Sample, image: usize, cap: usize, seen: &mut Coverage) -> Option<Observed> {
-        let chunk = sample.images[image].chunk(image);
-        self.engine.vm.limit_steps(1);
-        self.whose.push((image, 0));
-        let mut steps = 0;
-        let mut thrown = (Vec::new(), String::new());
-        let end = loop {
-            // What the next step is. The first one has its frame pushed by run_chunk.
-            let next = if steps == 0 {
-                chunk.bytecode.first().copied()
-            } else {
-                self.engine.vm.call_stack.last().and_then(|f| f.bytecode.get(f.ip)).copied()
-            };
-            let frames = self.engine.vm.call_stack.len() + (steps == 0) as usize;
-            let handlers = self.engine.vm.handlers().len();
-            if next == Some(74) {
-                if let Some(v) = self.engine.vm.stack.last() {
-                    thrown = (Vec::new(), v.to_js_string());
-                    stepped::engine::value(&mut thrown.0, v);
-                }
-            }
-            let r = if steps == 0 { self.engine.run(&chunk) } else { self.engine.vm.go_on() };
-            steps += 1;
-            match next {
-                Some(b) => seen.opcodes[b as usize] += 1,
-                None => seen.run_out += (frames > 0) as usize,
-            }
-            let went = matches!(r, Err(Limited::ExecutionLimitExceeded));
-            let vm = &self.engine.vm;
-            if went && matches!(next, Some(10) | Some(71)) {
-                if let Some(stepped::js_vm::JsValue::String(s)) = vm.stack.last() {
-                    self.made += s.len();
-                }
-            }
-            if next == Some(74) && went && handlers > 0 {
-                seen.caught += 1;
-            }
-            let now = vm.call_stack.len();
-            if now > self.whose.len() {
-                let f = &vm.call_stack[now - 1];
-                self.whose.push(stepped::engine::numbers(&vm.function_arena[f.function_id].name));
-            }
-            self.whose.truncate(now);
-            if !self.within() || steps > cap {
-                return None;
-            }
-            if !went {
-                break r;
-            }
-        };
-        seen.steps += steps;
-        seen.runs += 1;
-        let handlers = self.engine.vm.handlers();
-        let text = self.text();
-        let end = stepped::engine::end(&end, &thrown);
-        seen.ends[end[0] as usize] += 1;
-        let state = self.engine.state(&self.whose, &handlers, text);
-        Some(Observed { steps, thrown, whose: self.whose.clone(), handlers, text, end, state })
-    }
-}
 
 /// The bytes that the sample comes to, as Summary.antt writes them; None where it cannot be compared.
 fn expected(sample: &Sample, cap: usize, seen: &mut Coverage) -> Option<Vec<u8>> {
-    let mut stepper = Stepper { engine: stepped::engine::Engine::new(), whose: Vec::new(), made: 0 };
-    let mut engine = plain::engine::Engine::new();
+    let mut both = Both::new();
     let mut out = Vec::new();
     let mut loaded = 0;
     for action in &sample.actions {
@@ -153,39 +19,24 @@ fn expected(sample: &Sample, cap: usize, seen: &mut Coverage) -> Option<Vec<u8>>
                 loaded += 1;
             }
             Action::Register(i, t) => {
-                let template = sample.images[*i].template(*i, *t);
-                stepper.engine.register(template.clone());
                 out.push(2);
-                plain::engine::word(&mut out, engine.register(template));
+                plain::engine::word(&mut out, both.register(sample, *i, *t));
             }
             Action::SetGlobal(name, g) => {
-                if let Given::Fresh(bs) = g {
-                    stepper.made += bs.len();
-                }
-                stepper.engine.set_global(name, g);
-                engine.set_global(name, g);
+                both.set_global(name, g);
                 out.push(3);
             }
             Action::ReadGlobal(name) => {
                 out.push(4);
-                plain::engine::value(&mut out, &engine.read_global(name));
+                plain::engine::value(&mut out, &both.engine.read_global(name));
             }
             Action::Drain => {
-                stepper.engine.drain();
                 out.push(6);
-                out.extend_from_slice(&engine.drain());
+                out.extend_from_slice(&both.drain());
             }
             Action::Run(i) => {
-                let o = stepper.run(sample, *i, cap, seen)?;
-                let r = engine.run(&sample.images[*i].chunk(*i));
-                let end = plain::engine::end(&r, &o.thrown);
-                let state = engine.state(&o.whose, &o.handlers, o.text);
-                assert_eq!(end, o.end, "the copy that is stepped ends otherwise");
-                assert_eq!(state, o.state, "the copy that is stepped leaves something else");
                 out.push(5);
-                out.extend_from_slice(&end);
-                out.extend_from_slice(&(o.steps as u32).to_be_bytes()[1..]);
-                out.extend_from_slice(&state);
+                out.extend_from_slice(&both.run(sample, *i, cap, seen).ok()?.bytes);
             }
         }
     }
@@ -345,11 +196,5 @@ pub fn main() {
         most,
         text.len()
     );
-    let missed: Vec<u8> = OPCODES.iter().copied().filter(|b| seen.opcodes[*b as usize] == 0).collect();
-    let known: Vec<String> = OPCODES.iter().map(|b| format!("{}:{}", b, seen.opcodes[*b as usize])).collect();
-    let unknown: usize = (0..256).filter(|b| !OPCODES.contains(&(*b as u8))).map(|b| seen.opcodes[b]).sum();
-    eprintln!("opcodes executed (byte:times): {}", known.join(" "));
-    eprintln!("opcodes never executed: {:?}; unknown bytes met: {}; frames run out: {}; throws caught: {}", missed, unknown, seen.run_out, seen.caught);
-    let ends: Vec<String> = (0..64).filter(|e| seen.ends[*e] > 0).map(|e| format!("{}:{}", e, seen.ends[e])).collect();
-    eprintln!("ends (number:times): {}", ends.join(" "));
+    seen.print();
 }

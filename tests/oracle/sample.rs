@@ -55,7 +55,54 @@ fn word(out: &mut Vec<u8>, n: usize) {
     out.extend_from_slice(&(n as u16).to_be_bytes());
 }
 
+/// An image's bytes, from the front.
+struct Reader<'a>(&'a [u8]);
+
+impl<'a> Reader<'a> {
+    fn bytes(&mut self, n: usize) -> &'a [u8] {
+        let (now, later) = self.0.split_at(n);
+        self.0 = later;
+        now
+    }
+
+    fn word(&mut self) -> usize {
+        let b = self.bytes(2);
+        usize::from(b[0]) << 8 | usize::from(b[1])
+    }
+
+    fn constant(&mut self) -> Const {
+        match self.bytes(1)[0] {
+            0 => Const::Number(i64::from_be_bytes(self.bytes(8).try_into().unwrap())),
+            1 => {
+                let n = self.word();
+                Const::Text(self.bytes(n).to_vec())
+            }
+            2 => Const::Boolean(self.bytes(1)[0] == 1),
+            3 => Const::Null,
+            4 => Const::Undefined,
+            5 => Const::Function(self.word()),
+            k => panic!("a constant of kind {}", k),
+        }
+    }
+
+    fn template(&mut self) -> Template {
+        let (parameters, locals, n) = (self.word(), self.word(), self.word());
+        let constants = (0..n).map(|_| self.constant()).collect();
+        let n = self.word();
+        Template { parameters, locals, constants, code: self.bytes(n).to_vec() }
+    }
+}
+
 impl Image {
+    /// The image that these bytes are. They must be good.
+    pub fn read(bytes: &[u8]) -> Image {
+        let mut r = Reader(bytes);
+        let n = r.word();
+        let templates = (0..n).map(|_| r.template()).collect();
+        assert!(r.0.is_empty(), "bytes left over");
+        Image { templates }
+    }
+
     /// The image as document 01 lays it out, and the place and bytes of each text constant in it.
     pub fn bytes(&self) -> (Vec<u8>, Vec<(usize, Vec<u8>)>) {
         let mut out = Vec::new();

@@ -46,7 +46,7 @@ use Rattle.heapops.specs.declared.How.the-variants.{Went, Ended, Refused}
 use Rattle.heapops.specs.declared.Turned.{Turned}
 use Rattle.heapops.specs.Turns.{Mem, mem, below, stateOf, withDepths, Tells, KeptOf}
 use Rattle.finish.specs.Parts.{Tables, Ground, Finishes, withStacks, partOut, told, LeftBy, LeftReady}
-use Rattle.run.specs.Bounds.{went-bounded}
+use Rattle.run.specs.Bounds.{went-bounded, ended-bounded}
 use Rattle.run.specs.declared.Ending.{Ending}
 use Rattle.run.specs.declared.Ending.the-variants.{Finished, Failed, Full}
 use Rattle.run.specs.declared.Ran.{Ran}
@@ -195,10 +195,10 @@ module _ {all : Told} {k : ℕ} {c : Counts} {g : Tables} {m : Mem} {s : St.Stat
   pub left-ready : LeftBy x (r .how) (r .depths) w′
   left-ready = left-by x (r .how) (r .depths) (m .stacks) w′ (st .kept)
 
-  whole-more : (e : Counts) (m′ : Mem) → out (programOf (stateOf c m s)) (stateOf c m s) ≡ went (stateOf e m′ s) → e .code ≡ c .code → e .images ≡ c .images
+  whole-if : (e : Counts) (m′ : Mem) → Bounded (stateOf e m′ s) → e .code ≡ c .code → e .images ≡ c .images
       → length (m′ .stacks) ≡ length (m .stacks) → length (m′ .heap) ≡ length (m .heap) → length (m′ .text) ≡ length (m .text) → length (m′ .output) ≡ length (m .output) → Whole e g m′ s
-  whole-more e m′ o a b p q t v = let f = u .whole in record {
-    bounded = went-bounded (stateOf e m′ s) (programOf (stateOf c m s)) (stateOf c m s) o (f .bounded);
+  whole-if e m′ o a b p q t v = let f = u .whole in record {
+    bounded = o;
     code = f .code ∙ ap (bytesOf (g .code)) (sym a);
     images = f .images ∙ ap (imagesOf (g .code) (g .places) (g .rows) (g .starts)) (sym b);
     codes = f .codes;
@@ -207,6 +207,10 @@ module _ {all : Told} {k : ℕ} {c : Counts} {g : Tables} {m : Mem} {s : St.Stat
     text = t ∙ f .text;
     output = v ∙ f .output;
   }
+
+  whole-more : (e : Counts) (m′ : Mem) → out (programOf (stateOf c m s)) (stateOf c m s) ≡ went (stateOf e m′ s) → e .code ≡ c .code → e .images ≡ c .images
+      → length (m′ .stacks) ≡ length (m .stacks) → length (m′ .heap) ≡ length (m .heap) → length (m′ .text) ≡ length (m .text) → length (m′ .output) ≡ length (m .output) → Whole e g m′ s
+  whole-more e m′ o a b p q t v = whole-if e m′ (went-bounded (stateOf e m′ s) (programOf (stateOf c m s)) (stateOf c m s) o (u .whole .bounded)) a b p q t v
 
   goes : (e : Counts) (m′ : Mem) → out (programOf (stateOf c m s)) (stateOf c m s) ≡ went (stateOf e m′ s) → runOf (100000 - (k + 1)) (k + 1) (stateOf e m′ s) ≡ all
   goes e m′ o = ap (λ (y : Out). thenDo y (k + 1) (stateOf c m s) (λ t. runOf (100000 - (k + 1)) (k + 1) t)) (sym o) ∙ more
@@ -249,6 +253,18 @@ module _ {all : Told} {k : ℕ} {c : Counts} {g : Tables} {m : Mem} {s : St.Stat
         ap (λ (y : St.State). tell (k + 1) (R.full (spaceOf q)) y) (same (c .depths) s)
         ∙ ap (λ (y : Out). thenDo y (k + 1) (stateOf c m s) (λ t. runOf (100000 - (k + 1)) (k + 1) t)) (sym o) ∙ more
 
+    pub finishes-whole : {e : End} → t .how ≡ Ended e → length (m′ .stacks) ≡ length (m .stacks) → length (m′ .heap) ≡ length (m .heap) → length (m′ .text) ≡ length (m .text) → length (m′ .output) ≡ length (m .output)
+        → Whole (t .counts) g m′ s
+    finishes-whole {e} h p q y v =
+        let o : out (programOf (stateOf c m s)) (stateOf c m s) ≡ ended (endOf e) (stateOf (t .counts) m′ s) = subst (λ (h : How). Tells h (t .counts) m′ s (out (programOf (stateOf c m s)) (stateOf c m s))) h tells in
+        whole-if (t .counts) m′ (ended-bounded (stateOf (t .counts) m′ s) (endOf e) (programOf (stateOf c m s)) (stateOf c m s) o (u .whole .bounded)) (fin .steady .0) (fin .steady .1) p q y v
+
+    pub refuses-whole : {q : Space} → t .how ≡ Refused q → length (m′ .stacks) ≡ length (m .stacks) → length (m′ .heap) ≡ length (m .heap) → length (m′ .text) ≡ length (m .text) → length (m′ .output) ≡ length (m .output)
+        → Whole c g m′ s
+    refuses-whole {q} h a b y v =
+        let same : KeptOf (Refused q) c (withStacks (m .stacks) (withStacks w′ m)) m′ = subst (λ (h : How). KeptOf h c (withStacks (m .stacks) (withStacks w′ m)) m′) h (fin .kept (m .stacks) (st .kept)) in
+        whole-if c m′ (subst (λ (x : St.State). Bounded x) (sym (same (c .depths) s)) (u .whole .bounded)) refl refl a b y v
+
 -- the state that the stores hold, with nothing else
 abbrev pub groundOf : Counts → Tables → St.State
 groundOf c g = Fi.setCode (bytesOf (g .code) (c .code)) (Fi.setImages (imagesOf (g .code) (g .places) (g .rows) (g .starts) (c .images)) St.fresh)
@@ -258,3 +274,9 @@ stateIn c g m = stateOf c m (groundOf c g)
 
 abbrev pub ranOf : Ran → Counts → Tables → Mem → Told
 ranOf r c g m = tell (r .steps) (resultOf (r .end)) (stateOf (r .counts) m (groundOf c g))
+
+-- what a run leaves: the stores whole, and the code and the images as many as before
+pub record Leaves (c e : Counts) (g : Tables) (m : Mem) : Type 0 where
+  pub whole : Whole e g m (groundOf c g)
+  pub code : e .code ≡ c .code
+  pub images : e .images ≡ c .images

@@ -15,7 +15,7 @@ ghost use Rattle.value.specs.Errors.{errorOf, spaceOf};
 ghost use Rattle.value.specs.Words.{valueOf};
 ghost use Rattle.heapops.specs.Turns.{mem};
 ghost use Rattle.finish.specs.Parts.{tables};
-ghost use Rattle.run.specs.Runs.{resultOf, endingOf, Whole, groundOf, stateIn, ranOf, runOf};
+ghost use Rattle.run.specs.Runs.{resultOf, endingOf, Whole, groundOf, stateIn, ranOf, runOf, Leaves};
 
 pub enum Ending {
     Finished(Value),
@@ -124,6 +124,7 @@ pub fn run_loop(
     requires { ⌜ Whole c (tables (now code) (now places) (now rows) (now starts)) (mem (now stacks) (now heap) (now text) (now output)) (groundOf c (tables (now code) (now places) (now rows) (now starts))) ⌝ }
     ensures { λ r. ⌜ ranOf r c (tables (now (code .entry)) (now (places .entry)) (now (rows .entry)) (now (starts .entry))) (mem (now (stacks .exit)) (now (heap .exit)) (now (text .exit)) (now (output .exit)))
         ≡ runOf 100000 0 (stateIn c (tables (now (code .entry)) (now (places .entry)) (now (rows .entry)) (now (starts .entry))) (mem (now (stacks .entry)) (now (heap .entry)) (now (text .entry)) (now (output .entry)))) ⌝ }
+    ensures { λ r. ⌜ Leaves c (r .counts) (tables (now (code .entry)) (now (places .entry)) (now (rows .entry)) (now (starts .entry))) (mem (now (stacks .exit)) (now (heap .exit)) (now (text .exit)) (now (output .exit))) ⌝ }
 {
     let mut x = fetch::find(rows, starts, c.images, 0, 0);
     let mut d = c;

@@ -1,0 +1,28 @@
+//! For the measurements of bench/run, beside crates/repeat: reads a count in decimal, a line end and an image from standard input; then runs the image that
+//! many times, each time on a new JsVm, and prints the last run's end. document 000 keeps its step count to itself: `--steps` prints it, from one
+//! run on the copy that is stepped.
+
+use crate::plain::js_vm::JsVm;
+use crate::runs::{Both, Coverage, STEP_LIMIT};
+use crate::sample::{Image, Sample};
+use std::io::Read;
+
+pub fn main() {
+    let mut input = Vec::new();
+    std::io::stdin().read_to_end(&mut input).expect("standard input");
+    let end = input.iter().position(|b| *b == b'\n').expect("a line");
+    let count: usize = std::str::from_utf8(&input[..end]).unwrap().parse().expect("a count");
+    let image = Image::read(&input[end + 1..]);
+    if std::env::args().nth(1).as_deref() == Some("--steps") {
+        let told = Both::new().run(&Sample::run_one("bench", image), 0, STEP_LIMIT, &mut Coverage::new());
+        let told = told.ok().expect("an image that meets no added limit");
+        println!("end {} steps {}", told.bytes[0], told.steps);
+        return;
+    }
+    let chunk = image.chunk(0);
+    let mut last = None;
+    for _ in 0..count {
+        last = Some(JsVm::new().run_chunk(std::hint::black_box(&chunk)));
+    }
+    println!("{:?}", last);
+}

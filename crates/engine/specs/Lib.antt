@@ -1,0 +1,4 @@
+pub mod Calls
+pub mod Runs
+pub mod Loads
+pub mod Writes
