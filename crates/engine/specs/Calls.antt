@@ -8,6 +8,7 @@ use lib.ListN.{length, take}
 use Rattle.machine.specs.State as St
 use Rattle.machine.specs.State.{limit, operandLimit, codeStore, imageStore}
 use Rattle.machine.specs.Host as H
+use Rattle.value.specs.Words.{valueOf}
 use Rattle.texts.specs.Keeps.{textLimit, outputLimit}
 use Rattle.texts.specs.Overwrite.{overwrite}
 use Rattle.stacks.specs.Layout.{slotLimit, frameLimit, handlerLimit, stackWords}
@@ -18,10 +19,12 @@ use Rattle.heapops.specs.declared.Counts.{Counts}
 use Rattle.heapops.specs.Turns.{Mem}
 use Rattle.finish.specs.Parts.{Tables}
 use Rattle.run.specs.Runs.{stateIn, resultOf}
-use Rattle.engine.specs.declared.Cleared.{Cleared}
-use Rattle.engine.specs.declared.Cleared.the-variants.{Done as Cleared·Done, Refused as Cleared·Refused}
-use Rattle.engine.specs.declared.Loaded.{Loaded}
-use Rattle.engine.specs.declared.Loaded.the-variants.{Done as Loaded·Done, Refused as Loaded·Refused}
+use Rattle.engine.specs.declared.Changed.{Changed}
+use Rattle.engine.specs.declared.Changed.the-variants.{Done as Changed·Done, Refused as Changed·Refused}
+use Rattle.engine.specs.declared.Numbered.{Numbered}
+use Rattle.engine.specs.declared.Numbered.the-variants.{Done as Numbered·Done, Refused as Numbered·Refused}
+use Rattle.engine.specs.declared.GlobalRead.{GlobalRead}
+use Rattle.engine.specs.declared.GlobalRead.the-variants.{Valued as Read·Valued, Refused as Read·Refused}
 use Rattle.engine.specs.declared.RunAnswer.{RunAnswer}
 use Rattle.engine.specs.declared.RunAnswer.the-variants.{Ran as Run·Ran, Refused as Run·Refused}
 use Rattle.engine.specs.declared.Wrote.{Wrote}
@@ -78,13 +81,25 @@ pub record Buffered (answer : H.Answer) (b b′ : List ℕ) : Type 0 where
   pub bytes : b′ ≡ bufferBy answer b
 
 -- Document 01's answer for each case of the enums, and the counts that it leaves.
-abbrev pub answerOfLoad : Loaded → H.Answer
-answerOfLoad (Loaded·Done i c) = H.numbered i
-answerOfLoad (Loaded·Refused n) = H.refusal n
+abbrev pub answerOfNumbered : Numbered → H.Answer
+answerOfNumbered (Numbered·Done i c) = H.numbered i
+answerOfNumbered (Numbered·Refused n) = H.refusal n
 
-abbrev pub countsOfLoad : Counts → Loaded → Counts
-countsOfLoad c (Loaded·Done i e) = e
-countsOfLoad c (Loaded·Refused n) = c
+abbrev pub countsOfNumbered : Counts → Numbered → Counts
+countsOfNumbered c (Numbered·Done i e) = e
+countsOfNumbered c (Numbered·Refused n) = c
+
+abbrev pub answerOfChanged : Changed → H.Answer
+answerOfChanged (Changed·Done c) = H.done
+answerOfChanged (Changed·Refused n) = H.refusal n
+
+abbrev pub countsOfChanged : Counts → Changed → Counts
+countsOfChanged c (Changed·Done e) = e
+countsOfChanged c (Changed·Refused n) = c
+
+abbrev pub answerOfRead : GlobalRead → H.Answer
+answerOfRead (Read·Valued v) = H.valued (valueOf v)
+answerOfRead (Read·Refused n) = H.refusal n
 
 abbrev pub answerOfRun : RunAnswer → H.Answer
 answerOfRun (Run·Ran r) = H.ran (resultOf (r .end)) (r .steps)
@@ -108,11 +123,11 @@ countsOfDrain c (Drained·Bytes n e) = e
 countsOfDrain c (Drained·Refused n) = c
 
 -- Clear gives the fresh engine over any stores of listed size.
-abbrev pub ClearsTo : Tables → Mem → Cleared → Tables → Mem → Type 0
-ClearsTo g m (Cleared·Done c) g′ m′ = (stateIn c g′ m′ ≡ St.fresh) × (lent c g′ m′ ≡ true) × Stands c g′
-ClearsTo g m (Cleared·Refused n) g′ m′ = (n ≡ 33) × (g′ ≡ g) × (m′ ≡ m)
+abbrev pub ClearsTo : Tables → Mem → Changed → Tables → Mem → Type 0
+ClearsTo g m (Changed·Done c) g′ m′ = (stateIn c g′ m′ ≡ St.fresh) × (lent c g′ m′ ≡ true) × Stands c g′
+ClearsTo g m (Changed·Refused n) g′ m′ = (n ≡ 33) × (g′ ≡ g) × (m′ ≡ m)
 
-pub record Clears (g : Tables) (m : Mem) (r : Cleared) (g′ : Tables) (m′ : Mem) : Type 0 where
+pub record Clears (g : Tables) (m : Mem) (r : Changed) (g′ : Tables) (m′ : Mem) : Type 0 where
   pub told : ClearsTo g m r g′ m′
-  pub asked : sizesRight g m ≡ false → r ≡ Cleared·Refused 33
-  pub granted : sizesRight g m ≡ true → (n : ℕ) → r ≡ Cleared·Refused n → ⊥
+  pub asked : sizesRight g m ≡ false → r ≡ Changed·Refused 33
+  pub granted : sizesRight g m ≡ true → (n : ℕ) → r ≡ Changed·Refused n → ⊥

@@ -1,4 +1,11 @@
 pub mod Calls
-pub mod Runs
+pub mod Lent
+pub mod Performs
+pub mod Clears
 pub mod Loads
+pub mod Registers
+pub mod Inside
+pub mod Globals
+pub mod Runs
 pub mod Writes
+pub mod Demand3

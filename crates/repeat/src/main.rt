@@ -1,7 +1,7 @@
 //! For the measurements of bench/run: reads a count in decimal, a line end and an image from standard input; then clears, loads and runs the image that many
 //! times, and prints the last run's end and steps.
-use engine::Cleared;
-use engine::Loaded;
+use engine::Changed;
+use engine::Numbered;
 use engine::RunAnswer;
 use libc::STDOUT_FILENO;
 use std::num::wrapping_add_u64;
@@ -57,11 +57,11 @@ fn once(
     output: &mut [u8; 8192],
     image: &[u8],
 ) -> Last {
-    let Cleared::Done(fresh) = engine::clear(code, places, rows, starts, stacks, heap, text, output)
+    let Changed::Done(fresh) = engine::clear(code, places, rows, starts, stacks, heap, text, output)
     else {
         return Last { end: 33, steps: 0 };
     };
-    match engine::load(
+    match engine::images::load(
         code,
         places,
         rows,
@@ -73,8 +73,8 @@ fn once(
         fresh,
         image,
     ) {
-        Loaded::Refused(q) => Last { end: q, steps: 0 },
-        Loaded::Done(i, counts) => match engine::run(
+        Numbered::Refused(q) => Last { end: q, steps: 0 },
+        Numbered::Done(i, counts) => match engine::runs::run(
             code,
             places,
             rows,

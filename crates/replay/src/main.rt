@@ -5,9 +5,9 @@ use bytes::quad;
 use bytes::triple;
 use bytes::wide;
 use bytes::word;
-use engine::Cleared;
+use engine::Changed;
 use engine::Drained;
-use engine::Loaded;
+use engine::Numbered;
 use engine::RunAnswer;
 use heapops::Counts;
 use held::Cursor;
@@ -194,7 +194,7 @@ fn load_call(
     }
     let which = get(buf, c.place);
     let k = p.counts;
-    match engine::load(
+    match engine::images::load(
         code,
         places,
         rows,
@@ -206,13 +206,13 @@ fn load_call(
         k,
         &buf[from..to],
     ) {
-        Loaded::Done(i, counts) => Progress {
+        Numbered::Done(i, counts) => Progress {
             counts,
             cursor: held::to(c, to, which == 1 && i as u64 == p.images, LOAD),
             images: wrapping_add_u64(p.images, 1),
             runs: p.runs,
         },
-        Loaded::Refused(q) => not_loaded(p, buf, to, q),
+        Numbered::Refused(q) => not_loaded(p, buf, to, q),
     }
 }
 
@@ -244,7 +244,7 @@ fn run_call(
     let c = p.cursor;
     let k = p.counts;
     let image = get(buf, wrapping_add_usize(c.place, 1)) as usize;
-    match engine::run(
+    match engine::runs::run(
         code,
         places,
         rows,
@@ -259,7 +259,7 @@ fn run_call(
         RunAnswer::Refused(q) => not_run(p, buf, q),
         RunAnswer::Ran(r) => {
             let counts = r.counts;
-            let d = engine::drain(
+            let d = engine::buffers::drain(
                 code,
                 places,
                 rows,
@@ -298,7 +298,7 @@ fn drain_call(
     let c = p.cursor;
     let k = p.counts;
     let start = held::on(c, 1, true, 0);
-    match engine::drain(
+    match engine::buffers::drain(
         code,
         places,
         rows,
@@ -461,7 +461,7 @@ fn replayed(
             runs: 0,
         };
     }
-    let Cleared::Done(counts) = engine::clear(
+    let Changed::Done(counts) = engine::clear(
         code,
         places,
         rows,

@@ -1,8 +1,8 @@
 //! The bench sheet's program: reads an image from standard input, loads and runs it, and prints one line of what came of it, then each line of its
 //! output after `>`.
-use engine::Cleared;
+use engine::Changed;
 use engine::Drained;
-use engine::Loaded;
+use engine::Numbered;
 use engine::RunAnswer;
 use engine::Wrote;
 use heapops::Counts;
@@ -43,7 +43,7 @@ fn loaded_and_run(
     fresh: Counts,
     image: &[u8],
 ) -> Told {
-    match engine::load(
+    match engine::images::load(
         code,
         places,
         rows,
@@ -55,8 +55,8 @@ fn loaded_and_run(
         fresh,
         image,
     ) {
-        Loaded::Refused(q) => refused(q, fresh),
-        Loaded::Done(i, loaded) => match engine::run(
+        Numbered::Refused(q) => refused(q, fresh),
+        Numbered::Done(i, loaded) => match engine::runs::run(
             code,
             places,
             rows,
@@ -156,7 +156,7 @@ fn print<'a>(
     head(t);
     let k = t.counts;
     let v = t.value;
-    if let Wrote::Bytes(n) = engine::text_of(
+    if let Wrote::Bytes(n) = engine::buffers::text_of(
         code,
         places,
         rows,
@@ -171,7 +171,7 @@ fn print<'a>(
     ) {
         say_text(buffer, n);
     }
-    if let Drained::Bytes(n, _) = engine::drain(
+    if let Drained::Bytes(n, _) = engine::buffers::drain(
         code,
         places,
         rows,
@@ -199,7 +199,7 @@ fn whole(
     buffer: &mut [u8; 65536],
     image: &[u8],
 ) {
-    let Cleared::Done(fresh) = engine::clear(code, places, rows, starts, stacks, heap, text, output)
+    let Changed::Done(fresh) = engine::clear(code, places, rows, starts, stacks, heap, text, output)
     else {
         return;
     };

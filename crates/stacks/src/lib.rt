@@ -16,19 +16,21 @@ ghost use Rattle.stacks.specs.declared.Made.the-variants.{Went};
 ghost use Rattle.machine.specs.State.{operandLimit};
 
 // The limits of document 01, and where each stack begins: an operand and a slot have 3 words, a frame 5, a handler 3.
-const OPERAND_LIMIT: usize = 1024;
+pub const OPERAND_LIMIT: usize = 1024;
 
-const SLOT_LIMIT: usize = 2048;
+pub const SLOT_LIMIT: usize = 2048;
 
-const FRAME_LIMIT: usize = 64;
+pub const FRAME_LIMIT: usize = 64;
 
-const HANDLER_LIMIT: usize = 64;
+pub const HANDLER_LIMIT: usize = 64;
 
 const SLOTS_AT: usize = 3 * OPERAND_LIMIT;
 
 pub const FRAMES_AT: usize = SLOTS_AT + 3 * SLOT_LIMIT;
 
 pub const HANDLERS_AT: usize = FRAMES_AT + 5 * FRAME_LIMIT;
+
+pub const STACK_WORDS: usize = HANDLERS_AT + 3 * HANDLER_LIMIT;
 
 // How many stand, and the place of the newest frame.
 pub struct Depths {
