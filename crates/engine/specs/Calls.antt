@@ -4,11 +4,12 @@ use mathlib.Core.Bool.{Bool, true, false, _&&_}
 use mathlib.Core.List.{List}
 use mathlib.Core.Path.{_≡_}
 use lib.Dec.{eqb, leb}
-use lib.ListN.{length, take}
+use lib.ListN.{length}
 use Rattle.machine.specs.State as St
 use Rattle.machine.specs.State.{limit, operandLimit, codeStore, imageStore}
 use Rattle.machine.specs.Host as H
 use Rattle.value.specs.Words.{valueOf}
+use Rattle.value.specs.Lists.{bytesOf}
 use Rattle.texts.specs.Keeps.{textLimit, outputLimit}
 use Rattle.texts.specs.Overwrite.{overwrite}
 use Rattle.stacks.specs.Layout.{slotLimit, frameLimit, handlerLimit, stackWords}
@@ -109,13 +110,13 @@ abbrev pub countsOfRun : Counts → RunAnswer → Counts
 countsOfRun c (Run·Ran r) = r .counts
 countsOfRun c (Run·Refused n) = c
 
--- the bytes that stand at the buffer's start then
+-- the bytes that stand at the buffer's start then, exactly as many as were answered
 abbrev pub answerOfText : Wrote → List ℕ → H.Answer
-answerOfText (Wrote·Bytes n) b = H.wrote (take n b)
+answerOfText (Wrote·Bytes n) b = H.wrote (bytesOf b n)
 answerOfText (Wrote·Refused n) b = H.refusal n
 
 abbrev pub answerOfDrain : Drained → List ℕ → H.Answer
-answerOfDrain (Drained·Bytes n c) b = H.wrote (take n b)
+answerOfDrain (Drained·Bytes n c) b = H.wrote (bytesOf b n)
 answerOfDrain (Drained·Refused n) b = H.refusal n
 
 abbrev pub countsOfDrain : Counts → Drained → Counts

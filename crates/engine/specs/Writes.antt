@@ -6,7 +6,7 @@ use mathlib.Core.List.{List, _++_}
 use mathlib.Core.Option.{Option, none}
 use mathlib.Core.Path.{_≡_, refl, sym, ap, subst, _∙_}
 use lib.Dec.{leb}
-use lib.ListN.{length, getD, take, drop}
+use lib.ListN.{length, getD, take, drop, length-append}
 use lib.Seq.{take-at, length-take-le}
 use Rattle.machine.specs.Basic.{if_then_else_}
 use Rattle.machine.specs.State as St
@@ -62,15 +62,18 @@ short-by false t b b′ r h a f e = record { room = h; bytes = f }
 pub short : {t b b′ : List ℕ} {r : Formatted} → Writes t b r b′ → r ≡ TooShort → Short t b b′
 short {t} {b} {b′} {r} f e = short-by (leb (length t) (length b)) t b b′ r refl (f .answer) (f .buffer) e
 
-pub fitted-take : {t b b′ : List ℕ} {k : ℕ} → Fitted t b k b′ → take k b′ ≡ t
-fitted-take {t} {b} {b′} {k} f = ap (take k) (f .bytes) ∙ take-at t (drop (length t) b) k (sym (f .size))
+pub fitted-start : {t b b′ : List ℕ} {k : ℕ} → Fitted t b k b′ → bytesOf b′ k ≡ t
+fitted-start {t} {b} {b′} {k} f =
+    let n : length b′ ≡ length t + length (drop (length t) b) = ap length (f .bytes) ∙ length-append t (drop (length t) b) in
+    let z = f .size in
+    bytes-take b′ k (omega (arith, n, z)) ∙ ap (take k) (f .bytes) ∙ take-at t (drop (length t) b) k (sym (f .size))
 
-pub fitted-buffer : {t b b′ : List ℕ} {k : ℕ} → Fitted t b k b′ → Buffered (H.wrote (take k b′)) b b′
+pub fitted-buffer : {t b b′ : List ℕ} {k : ℕ} → Fitted t b k b′ → Buffered (H.wrote (bytesOf b′ k)) b b′
 unfolding overwrite
 fitted-buffer {t} {b} {b′} {k} f =
     let z : 0 + length t ≡ length t = omega arith in
     let e : b′ ≡ overwrite b 0 t = f .bytes ∙ rw z refl in
-    record { bytes = e ∙ ap (overwrite b 0) (sym (fitted-take f)) }
+    record { bytes = e ∙ ap (overwrite b 0) (sym (fitted-start f)) }
 
 -- Drain: the bytes in use, and then none
 abbrev pub emptied : Counts → Counts
@@ -113,11 +116,11 @@ module _ {c : Counts} {g : Tables} {m : Mem} (e : Lent c g m) where
         let k : leb (length (bytesOf (m .output) (c .output))) (length b) ≡ false = rw output-in-use (s .room) in
         (called-no e (ap (λ (x : Bool). H.ask 31 x none) k), record { bytes = s .bytes })
 
-    pub drain-bytes : (k : ℕ) → r ≡ Bytes k → Called (H.drain (length b)) c g m (H.wrote (take k b′)) (emptied c) g m × Buffered (H.wrote (take k b′)) b b′
+    pub drain-bytes : (k : ℕ) → r ≡ Bytes k → Called (H.drain (length b)) c g m (H.wrote (bytesOf b′ k)) (emptied c) g m × Buffered (H.wrote (bytesOf b′ k)) b b′
     drain-bytes k q =
         let s = fitted f q in
         let h : leb (length (bytesOf (m .output) (c .output))) (length b) ≡ true = rw output-in-use (s .room) in
-        let t : bytesOf (m .output) (c .output) ≡ take k b′ = output-in-use ∙ sym (fitted-take s) in (
+        let t : bytesOf (m .output) (c .output) ≡ bytesOf b′ k = output-in-use ∙ sym (fitted-start s) in (
           called-done e refl (rw h (ap H.wrote t), rw h (ap (λ (o : List ℕ). Fi.setOutput o (stateIn c g m)) (sym (row-none (λ i. getD (m .output) i 0))))) lent-emptied (λ d. d),
           fitted-buffer s,
         )
@@ -145,10 +148,10 @@ module _ {c : Counts} {g : Tables} {m : Mem} (e : Lent c g m) where
           pub text-31 : r ≡ TooShort → Called (H.text v (length b)) c g m (H.refusal 31) c g m × Buffered (H.refusal 31) b b′
           text-31 h = let s = short t h in (called-no e (asked (length b) (s .room)), record { bytes = s .bytes })
 
-          pub text-bytes : (k : ℕ) → r ≡ Bytes k → Called (H.text v (length b)) c g m (H.wrote (take k b′)) c g m × Buffered (H.wrote (take k b′)) b b′
+          pub text-bytes : (k : ℕ) → r ≡ Bytes k → Called (H.text v (length b)) c g m (H.wrote (bytesOf b′ k)) c g m × Buffered (H.wrote (bytesOf b′ k)) b b′
           text-bytes k h =
               let s = fitted t h in
               let z = comes-went (H.text v (length b)) (stateIn c g m) (asked (length b) (s .room)) (stateIn c g m) (out-next (stateIn c g m)) in (
-                called-done e refl (ap (λ (x : H.Called). x .answer) (z .0) ∙ ap H.wrote (sym (fitted-take s)), ap (λ (x : H.Called). x .after) (z .0) ∙ z .1) (e .right) (λ d. d),
+                called-done e refl (ap (λ (x : H.Called). x .answer) (z .0) ∙ ap H.wrote (sym (fitted-start s)), ap (λ (x : H.Called). x .after) (z .0) ∙ z .1) (e .right) (λ d. d),
                 fitted-buffer s,
               )
