@@ -42,6 +42,7 @@ pub const HEAP_WORDS: usize = GLOBALS_AT + 6 * GLOBAL_LIMIT;
 pub const NATIVE_CONSOLE_ID: u64 = 18446744073709551615;
 
 // How many stand.
+#[repr(C)]
 pub struct Sizes {
     pub functions: usize,
     pub objects: usize,

@@ -16,6 +16,7 @@ pub mod print;
 pub mod stores;
 
 // How much of each store is in use.
+#[repr(C)]
 pub struct Counts {
     pub depths: Depths,
     pub sizes: Sizes,

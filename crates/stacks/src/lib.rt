@@ -33,6 +33,7 @@ pub const HANDLERS_AT: usize = FRAMES_AT + 5 * FRAME_LIMIT;
 pub const STACK_WORDS: usize = HANDLERS_AT + 3 * HANDLER_LIMIT;
 
 // How many stand, and the place of the newest frame.
+#[repr(C)]
 pub struct Depths {
     pub operands: usize,
     pub slots: usize,

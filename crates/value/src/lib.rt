@@ -41,6 +41,7 @@ pub enum Space {
     Output,
 }
 
+#[repr(C)]
 pub struct Words {
     pub kind: u64,
     pub first: u64,

@@ -1,0 +1,152 @@
+//! What the face is told of the engine's answers.
+use crate::Answer;
+use crate::RunTold;
+use crate::ValueAnswer;
+use engine::Changed;
+use engine::Drained;
+use engine::GlobalRead;
+use engine::Numbered;
+use engine::RunAnswer;
+use engine::Wrote;
+use heapops::Counts;
+use run::Ending;
+use run::Ran;
+use value::JsVmError;
+use value::Value;
+use value::Words;
+ghost use mathlib.Core.Path.{_≡_};
+ghost use Rattle.machine.specs.Host as Host;
+ghost use Rattle.value.specs.Errors.{errorOf};
+ghost use Rattle.run.specs.Runs.{resultOf};
+ghost use Rattle.engine.specs.Calls.{answerOfNumbered, countsOfNumbered, answerOfChanged, countsOfChanged, answerOfRead, answerOfRun, countsOfRun};
+ghost use Rattle.carderwheel.specs.Flat.{answer, told, toldValue, toldRun, flatText, flatDrain, errorOpcode, opcodeOf};
+
+pub(crate) fn changed(counts: Counts, x: Changed) -> Answer
+    ensures { λ r. ⌜ r ≡ told (answerOfChanged x) (countsOfChanged counts x) ⌝ }
+{
+    match x {
+        Changed::Done(c) => accepted(0, c),
+        Changed::Refused(n) => refused(n, counts),
+    }
+}
+
+pub(crate) fn numbered(counts: Counts, x: Numbered) -> Answer
+    ensures { λ r. ⌜ r ≡ told (answerOfNumbered x) (countsOfNumbered counts x) ⌝ }
+{
+    match x {
+        Numbered::Done(i, c) => accepted(i, c),
+        Numbered::Refused(n) => refused(n, counts),
+    }
+}
+
+pub(crate) fn wrote(counts: Counts, x: Wrote) -> Answer
+    ensures { λ r. ⌜ r ≡ flatText counts x ⌝ }
+{
+    match x {
+        Wrote::Bytes(n) => accepted(n, counts),
+        Wrote::Refused(n) => refused(n, counts),
+    }
+}
+
+pub(crate) fn drained(counts: Counts, x: Drained) -> Answer
+    ensures { λ r. ⌜ r ≡ flatDrain counts x ⌝ }
+{
+    match x {
+        Drained::Bytes(n, c) => accepted(n, c),
+        Drained::Refused(n) => refused(n, counts),
+    }
+}
+
+fn accepted(amount: usize, counts: Counts) -> Answer
+    ensures { λ r. ⌜ r ≡ answer 0 amount counts ⌝ }
+{
+    Answer {
+        number: 0,
+        amount,
+        counts,
+    }
+}
+
+fn refused(n: u64, counts: Counts) -> Answer
+    ensures { λ r. ⌜ r ≡ answer n 0 counts ⌝ }
+{
+    Answer {
+        number: n,
+        amount: 0,
+        counts,
+    }
+}
+
+pub(crate) fn valued(x: GlobalRead) -> ValueAnswer
+    ensures { λ r. ⌜ r ≡ toldValue (answerOfRead x) ⌝ }
+{
+    match x {
+        GlobalRead::Valued(v) => ValueAnswer {
+            number: 0,
+            value: value::encode(v),
+        },
+        GlobalRead::Refused(n) => ValueAnswer {
+            number: n,
+            value: value::encode(Value::Undefined),
+        },
+    }
+}
+
+pub(crate) fn ran(counts: Counts, x: RunAnswer) -> RunTold
+    ensures { λ r. ⌜ r ≡ toldRun (answerOfRun x) (countsOfRun counts x) ⌝ }
+{
+    match x {
+        RunAnswer::Ran(r) => started(r),
+        RunAnswer::Refused(n) => RunTold {
+            number: n,
+            started: 0,
+            steps: 0,
+            opcode: 0,
+            value: value::encode(Value::Undefined),
+            counts,
+        },
+    }
+}
+
+fn started(x: Ran) -> RunTold
+    ensures { λ r. ⌜ r ≡ toldRun (Host.ran (resultOf (x .end)) (x .steps)) (x .counts) ⌝ }
+{
+    let e = x.end;
+    let counts = x.counts;
+    let v = run::end_value(e);
+    RunTold {
+        number: run::end_number(e),
+        started: 1,
+        steps: x.steps,
+        opcode: opcode_in(e),
+        value: value::encode(v),
+        counts,
+    }
+}
+
+// The byte of error 13.
+fn opcode_in(e: Ending) -> u64
+    ensures { λ r. ⌜ r ≡ opcodeOf (resultOf e) ⌝ }
+{
+    match e {
+        Ending::Finished(_) => 0,
+        Ending::Failed(q) => opcode_of(q),
+        Ending::Full(_) => 0,
+    }
+}
+
+fn opcode_of(e: JsVmError) -> u64
+    ensures { λ r. ⌜ r ≡ errorOpcode (errorOf e) ⌝ }
+{
+    match e {
+        JsVmError::UnknownOpcode(b) => b as u64,
+        JsVmError::ExecutionLimitExceeded => 0,
+        JsVmError::IpOutOfBounds => 0,
+        JsVmError::StackUnderflow => 0,
+        JsVmError::StackOverflow => 0,
+        JsVmError::UncaughtException(_) => 0,
+        JsVmError::NotCallable => 0,
+        JsVmError::InvalidFunctionId => 0,
+        JsVmError::NoCallFrame => 0,
+    }
+}
