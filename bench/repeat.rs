@@ -12,11 +12,11 @@ pub fn main() {
     std::io::stdin().read_to_end(&mut input).expect("standard input");
     let end = input.iter().position(|b| *b == b'\n').expect("a line");
     let count: usize = std::str::from_utf8(&input[..end]).unwrap().parse().expect("a count");
-    let image = Image::read(&input[end + 1..]);
+    let image = Image::read(&input[end + 1..]).expect("an image");
     if std::env::args().nth(1).as_deref() == Some("--steps") {
         let told = Both::new().run(&Sample::run_one("bench", image), 0, STEP_LIMIT, &mut Coverage::new());
-        let told = told.ok().expect("an image that meets no added limit");
-        println!("end {} steps {}", told.bytes[0], told.steps);
+        let told = told.expect("a run that ends");
+        println!("end {} steps {}", told.end[0], told.steps);
         return;
     }
     let chunk = image.chunk(0);

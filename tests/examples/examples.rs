@@ -6,14 +6,14 @@ use crate::sample::{Image, Sample};
 use std::path::Path;
 
 fn answer(bytes: &[u8]) -> Vec<u8> {
-    let sample = Sample::run_one("example", Image::read(bytes));
+    let sample = Sample::run_one("example", Image::read(bytes).expect("an image"));
     let mut both = Both::new();
-    let told = both.run(&sample, 0, STEP_LIMIT, &mut Coverage::new()).ok().expect("an image that meets no added limit");
+    let told = both.run(&sample, 0, STEP_LIMIT, &mut Coverage::new()).expect("a run that ends");
     let vm = &both.engine.vm;
     let (operands, frames) = (vm.stack.len(), vm.call_stack.len());
     let mut out = format!(
         "end {} steps {} operands {} frames {} handlers {} value {}",
-        told.bytes[0], told.steps, operands, frames, told.handlers, told.value
+        told.end[0], told.steps, operands, frames, told.handlers, told.value
     )
     .into_bytes();
     for line in &vm.output {

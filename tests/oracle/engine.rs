@@ -133,13 +133,6 @@ impl Engine {
         self.vm.object_arena.iter().map(|o| o.properties.len()).sum()
     }
 
-    /// The bytes of all keys and of all names but `console`.
-    pub fn key_bytes(&self) -> usize {
-        let keys: usize = self.vm.object_arena.iter().flat_map(|o| o.properties.keys()).map(|k| k.len()).sum();
-        let names: usize = self.vm.globals.keys().filter(|n| *n != "console").map(|n| n.len()).sum();
-        keys + names
-    }
-
     pub fn output_bytes(&self) -> usize {
         self.vm.output.iter().map(|l| l.len() + 2).sum()
     }

@@ -3,6 +3,7 @@
 use crate::images;
 use crate::runs::{Both, Coverage};
 use crate::sample::{Action, Given, Plain, Rng, Sample};
+use crate::words::Words;
 use crate::{plain, specials};
 use std::fmt::Write;
 
@@ -36,7 +37,7 @@ fn expected(sample: &Sample, cap: usize, seen: &mut Coverage) -> Option<Vec<u8>>
             }
             Action::Run(i) => {
                 out.push(5);
-                out.extend_from_slice(&both.run(sample, *i, cap, seen).ok()?.bytes);
+                out.extend_from_slice(&both.run(sample, *i, cap, seen).filter(|t| !t.refused)?.bytes());
             }
         }
     }
@@ -116,25 +117,11 @@ fn module(samples: &[(Sample, Vec<u8>)]) -> String {
 }
 
 pub fn main() {
-    let (mut seed, mut count, mut out) = (1u64, 100usize, String::new());
-    let (mut long, mut short, mut cap, mut room, mut show) = (usize::MAX, usize::MAX, 150usize, 26usize, 0usize);
-    let mut only: Vec<usize> = Vec::new();
-    let mut args = std::env::args().skip(1);
-    while let Some(a) = args.next() {
-        let v = args.next().unwrap_or_else(|| panic!("{} takes a value", a));
-        match a.as_str() {
-            "--seed" => seed = v.parse().expect("a number"),
-            "--count" => count = v.parse().expect("a number"),
-            "--long" => long = v.parse().expect("a number"),
-            "--short" => short = v.parse().expect("a number"),
-            "--cap" => cap = v.parse().expect("a number"),
-            "--room" => room = v.parse().expect("a number"),
-            "--show" => show = v.parse().expect("a number"),
-            "--only" => only = v.split(',').map(|n| n.parse().expect("a number")).collect(),
-            "--out" => out = v,
-            _ => panic!("unknown word {}", a),
-        }
-    }
+    let words = Words::read(&["seed", "count", "long", "short", "cap", "room", "show", "only", "out"]);
+    let (seed, count, out) = (words.number("seed", 1u64), words.number("count", 100usize), words.text("out"));
+    let (long, short) = (words.number("long", usize::MAX), words.number("short", usize::MAX));
+    let (cap, room, show) = (words.number("cap", 150usize), words.number("room", 26usize), words.number("show", 0usize));
+    let only: Vec<usize> = words.text("only").map_or(Vec::new(), |v| v.split(',').map(|n| n.parse().expect("a number")).collect());
     let mut seen = Coverage::new();
     let mut samples: Vec<(Sample, Vec<u8>)> = Vec::new();
     let mut dropped = 0;
@@ -175,10 +162,9 @@ pub fn main() {
         samples = only.iter().map(|n| samples[n - 1].clone()).collect();
     }
     let text = module(&samples);
-    if out.is_empty() {
-        print!("{}", text);
-    } else {
-        std::fs::write(&out, &text).expect("the file is written");
+    match out {
+        Some(file) => std::fs::write(file, &text).expect("the file is written"),
+        None => print!("{}", text),
     }
     let of = |kind: &str| samples.iter().filter(|s| s.0.kind == kind).count();
     eprintln!(

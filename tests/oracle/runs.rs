@@ -1,13 +1,13 @@
 //! A sample's runs on both copies of js_vm, and what they come to. Used by the oracle and by the list that the engine is held to (tests/replay).
 
 use crate::images::OPCODES;
+use crate::plain::js_compiler::{Chunk, Constant};
+use crate::plain::js_vm as unchanged;
 use crate::sample::{Given, Sample};
+use crate::stepped::js_vm::{JsValue, JsVmError};
 use crate::{plain, stepped};
 
-type Limited = stepped::js_vm::JsVmError;
-
 /// What the samples of a set made happen.
-#[derive(Default)]
 pub struct Coverage {
     pub opcodes: Vec<usize>,
     pub ends: Vec<usize>,
@@ -20,7 +20,7 @@ pub struct Coverage {
 
 impl Coverage {
     pub fn new() -> Coverage {
-        Coverage { opcodes: vec![0; 256], ends: vec![0; 64], ..Coverage::default() }
+        Coverage { opcodes: vec![0; 256], ends: vec![0; 64], run_out: 0, caught: 0, steps: 0, most: 0, runs: 0 }
     }
 
     pub fn add(&mut self, c: &Coverage) {
@@ -52,9 +52,12 @@ impl Coverage {
 /// The steps that a run makes before it ends with 12.
 pub const STEP_LIMIT: usize = 100_000;
 
-/// Why a run is not compared: it makes too many steps, or a step passes an added limit of document 01. The step's number is given, counted from 1, and
-/// the question that document 01 answers there.
-pub enum Stopped {
+/// The instructions that can add to a store with an added limit.
+const ADDING: [u8; 12] = [0, 2, 4, 6, 8, 10, 50, 52, 60, 61, 71, 75];
+
+/// Why a run is not observed to its end: it makes too many steps, or a step passes an added limit of document 01. The step's number is given, counted from 1,
+/// and the question that document 01 answers there.
+enum Stopped {
     Long,
     Past(usize, u8),
 }
@@ -63,24 +66,21 @@ pub enum Stopped {
 struct Observed {
     steps: usize,
     thrown: (Vec<u8>, String),
-    whose: Vec<(usize, usize)>,
-    handlers: Vec<[usize; 3]>,
-    text: usize,
     end: Vec<u8>,
-    state: Vec<u8>,
 }
 
 /// The copy that makes one step at a time.
 struct Stepper {
     engine: stepped::engine::Engine,
     whose: Vec<(usize, usize)>,
-    /// The bytes of texts that Add and Typeof pushed and of those that the host gave.
-    made: usize,
+    /// The text store by document 01's rule: texts that Add and Typeof pushed, texts that the host gave, new keys and names, in the order of making.
+    texts: Vec<u8>,
 }
 
 impl Stepper {
-    fn text(&self) -> usize {
-        self.made + self.engine.key_bytes()
+    fn copy(&self) -> Stepper {
+        let engine = stepped::engine::Engine { vm: self.engine.vm.copy() };
+        Stepper { engine, whose: self.whose.clone(), texts: self.texts.clone() }
     }
 
     /// The question of the first added limit of document 01 that is passed, in the order in which it asks.
@@ -89,60 +89,103 @@ impl Stepper {
         let use_and_limit = [
             (11, vm.call_stack.len(), 64),
             (21, self.engine.slots(), 2048),
-            (22, vm.handlers().len(), 64),
+            (22, vm.handler_count(), 64),
             (23, vm.function_arena.len(), 1024),
             (24, vm.object_arena.len(), 512),
             (25, self.engine.properties(), 1024),
             (26, vm.globals.len(), 128),
-            (27, self.text(), 32768),
+            (27, self.texts.len(), 32768),
             (28, self.engine.output_bytes(), 8192),
         ];
         use_and_limit.iter().find(|(_, n, limit)| n > limit).map(|q| q.0)
     }
 
+    /// The key or name by which the instruction that is next would store.
+    fn key(&self, op: Option<u8>) -> Option<String> {
+        let vm = &self.engine.vm;
+        match op? {
+            4 | 6 => {
+                let f = vm.call_stack.last()?;
+                let i = usize::from(*f.bytecode.get(f.ip + 1)?) << 8 | usize::from(*f.bytecode.get(f.ip + 2)?);
+                Some(match f.constants.get(i) {
+                    Some(Constant::Str(s)) => s.clone(),
+                    _ => i.to_string(),
+                })
+            }
+            8 => Some(vm.stack.get(vm.stack.len().checked_sub(2)?)?.to_js_string()),
+            _ => None,
+        }
+    }
+
+    /// How many rows stand that have a key or a name of their own in the text store.
+    fn rows(&self) -> usize {
+        self.engine.properties() + self.engine.vm.globals.len()
+    }
+
+    fn set_global(&mut self, name: &[u8], g: &Given) {
+        let rows = self.rows();
+        self.engine.set_global(name, g);
+        if self.rows() > rows {
+            self.texts.extend_from_slice(name);
+        }
+        if let Given::Fresh(bytes) = g {
+            self.texts.extend_from_slice(bytes);
+        }
+    }
+
+    /// One step; the text that it keeps goes to the text store.
+    fn step(&mut self, op: Option<u8>) -> Result<JsValue, JsVmError> {
+        let key = self.key(op);
+        let rows = if key.is_some() { self.rows() } else { 0 };
+        let objects = self.engine.vm.object_arena.len();
+        let r = self.engine.vm.go_on();
+        if let Some(k) = key {
+            if self.rows() > rows {
+                self.texts.extend_from_slice(k.as_bytes());
+            }
+        }
+        let vm = &self.engine.vm;
+        if op == Some(61) && vm.object_arena.len() > objects {
+            for i in 0..vm.object_arena[objects].properties.len() - 1 {
+                self.texts.extend_from_slice(i.to_string().as_bytes());
+            }
+            self.texts.extend_from_slice(b"length");
+        }
+        if matches!((op, &r), (Some(10 | 71), Err(JsVmError::ExecutionLimitExceeded))) {
+            if let Some(JsValue::String(s)) = vm.stack.last() {
+                self.texts.extend_from_slice(s.as_bytes());
+            }
+        }
+        r
+    }
+
     /// A run, or its first `stop` steps.
     fn run(&mut self, sample: &Sample, image: usize, cap: usize, stop: usize, seen: &mut Coverage) -> Result<Observed, Stopped> {
-        let chunk = sample.images[image].chunk(image);
+        // its frame, and no step
+        self.engine.vm.limit_steps(0);
+        let mut end = self.engine.run(&sample.images[image].chunk(image));
         self.engine.vm.limit_steps(1);
         self.whose.push((image, 0));
         let mut steps = 0;
         let mut thrown = (Vec::new(), String::new());
-        let end = loop {
-            if steps == stop {
-                if steps == 0 {
-                    // the frame alone
-                    self.engine.vm.limit_steps(0);
-                    break self.engine.run(&chunk);
-                }
-                break Err(Limited::ExecutionLimitExceeded);
-            }
-            // What the next step is. The first one has its frame pushed by run_chunk.
-            let next = if steps == 0 {
-                chunk.bytecode.first().copied()
-            } else {
-                self.engine.vm.call_stack.last().and_then(|f| f.bytecode.get(f.ip)).copied()
-            };
-            let frames = self.engine.vm.call_stack.len() + (steps == 0) as usize;
-            let handlers = self.engine.vm.handlers().len();
+        while steps < stop {
+            let next = self.engine.vm.call_stack.last().and_then(|f| f.bytecode.get(f.ip)).copied();
+            let frames = self.engine.vm.call_stack.len();
+            let handlers = self.engine.vm.handler_count();
             if next == Some(74) {
                 if let Some(v) = self.engine.vm.stack.last() {
                     thrown = (Vec::new(), v.to_js_string());
                     stepped::engine::value(&mut thrown.0, v);
                 }
             }
-            let r = if steps == 0 { self.engine.run(&chunk) } else { self.engine.vm.go_on() };
+            end = self.step(next);
             steps += 1;
             match next {
                 Some(b) => seen.opcodes[b as usize] += 1,
                 None => seen.run_out += (frames > 0) as usize,
             }
-            let went = matches!(r, Err(Limited::ExecutionLimitExceeded));
+            let went = matches!(end, Err(JsVmError::ExecutionLimitExceeded));
             let vm = &self.engine.vm;
-            if went && matches!(next, Some(10) | Some(71)) {
-                if let Some(stepped::js_vm::JsValue::String(s)) = vm.stack.last() {
-                    self.made += s.len();
-                }
-            }
             if next == Some(74) && went && handlers > 0 {
                 seen.caught += 1;
             }
@@ -152,34 +195,57 @@ impl Stepper {
                 self.whose.push(stepped::engine::numbers(&vm.function_arena[f.function_id].name));
             }
             self.whose.truncate(now);
-            if let Some(q) = self.past() {
-                return Err(Stopped::Past(steps, q));
+            if next.map_or(false, |b| ADDING.contains(&b)) {
+                if let Some(q) = self.past() {
+                    return Err(Stopped::Past(steps, q));
+                }
             }
             if steps > cap {
                 return Err(Stopped::Long);
             }
             if !went || steps == STEP_LIMIT {
-                break r;
+                break;
             }
-        };
-        seen.steps += steps;
-        seen.runs += 1;
-        let handlers = self.engine.vm.handlers();
-        let text = self.text();
+        }
         let end = stepped::engine::end(&end, &thrown);
-        seen.ends[end[0] as usize] += 1;
-        let state = self.engine.state(&self.whose, &handlers, text);
-        Ok(Observed { steps, thrown, whose: self.whose.clone(), handlers, text, end, state })
+        Ok(Observed { steps, thrown, end })
+    }
+
+    fn state(&self) -> Vec<u8> {
+        self.engine.state(&self.whose, &self.engine.vm.handlers(), self.texts.len())
     }
 }
 
-/// What a run came to: its end, its steps in three bytes, and all that is held after it; and some of that by itself.
+/// What a run came to: its end, its steps, and all that is held after it; and some of that by itself.
 pub struct Told {
-    pub bytes: Vec<u8>,
+    /// The run is refused for space: the number and the steps are by document 01's rule, and the state is that before the refused instruction.
+    pub refused: bool,
+    pub end: Vec<u8>,
     pub steps: usize,
+    pub state: Vec<u8>,
     pub handlers: usize,
     /// The text of the result or of the thrown value, else `undefined`.
     pub value: String,
+}
+
+impl Told {
+    /// The end, the steps in three bytes, the state.
+    pub fn bytes(&self) -> Vec<u8> {
+        [&self.end, &(self.steps as u32).to_be_bytes()[1..], &self.state].concat()
+    }
+}
+
+/// The value, as the unchanged copy has it.
+fn same(v: &JsValue) -> unchanged::JsValue {
+    match v {
+        JsValue::Undefined => unchanged::JsValue::Undefined,
+        JsValue::Null => unchanged::JsValue::Null,
+        JsValue::Boolean(b) => unchanged::JsValue::Boolean(*b),
+        JsValue::Number(n) => unchanged::JsValue::Number(*n),
+        JsValue::String(s) => unchanged::JsValue::String(s.clone()),
+        JsValue::Object(o) => unchanged::JsValue::Object(*o),
+        JsValue::Function(f) => unchanged::JsValue::Function(*f),
+    }
 }
 
 /// Both copies, doing the same.
@@ -190,7 +256,7 @@ pub struct Both {
 
 impl Both {
     pub fn new() -> Both {
-        let stepper = Stepper { engine: stepped::engine::Engine::new(), whose: Vec::new(), made: 0 };
+        let stepper = Stepper { engine: stepped::engine::Engine::new(), whose: Vec::new(), texts: Vec::new() };
         Both { engine: plain::engine::Engine::new(), stepper }
     }
 
@@ -201,10 +267,7 @@ impl Both {
     }
 
     pub fn set_global(&mut self, name: &[u8], g: &Given) {
-        if let Given::Fresh(bs) = g {
-            self.stepper.made += bs.len();
-        }
-        self.stepper.engine.set_global(name, g);
+        self.stepper.set_global(name, g);
         self.engine.set_global(name, g);
     }
 
@@ -213,33 +276,93 @@ impl Both {
         self.engine.drain()
     }
 
-    pub fn run(&mut self, sample: &Sample, image: usize, cap: usize, seen: &mut Coverage) -> Result<Told, Stopped> {
-        let o = self.stepper.run(sample, image, cap, usize::MAX, seen)?;
-        let r = self.engine.run(&sample.images[image].chunk(image));
-        let mut bytes = plain::engine::end(&r, &o.thrown);
-        let state = self.engine.state(&o.whose, &o.handlers, o.text);
-        assert_eq!(bytes, o.end, "the copy that is stepped ends otherwise");
-        assert_eq!(state, o.state, "the copy that is stepped leaves something else");
-        bytes.extend_from_slice(&(o.steps as u32).to_be_bytes()[1..]);
-        bytes.extend_from_slice(&state);
-        let value = match r {
-            Ok(v) => v.to_js_string(),
-            Err(plain::js_vm::JsVmError::UncaughtException { message }) => message,
-            Err(_) => "undefined".into(),
-        };
-        Ok(Told { bytes, steps: o.steps, handlers: o.handlers.len(), value })
+    /// The text store, by document 01's rule.
+    pub fn texts(&self) -> &[u8] {
+        &self.stepper.texts
     }
 
-    /// The bytes of a run whose step with this number is refused: document 01's number, and what stood before that instruction. The unchanged copy is left
-    /// behind, so nothing can follow.
-    pub fn refused(mut self, sample: &Sample, image: usize, step: usize, question: u8, seen: &mut Coverage) -> Vec<u8> {
-        let o = self.stepper.run(sample, image, STEP_LIMIT, step - 1, &mut Coverage::new()).ok().expect("the steps before a refusal");
-        seen.ends[question as usize] += 1;
-        seen.steps += step;
+    pub fn state(&self) -> Vec<u8> {
+        self.engine.state(&self.stepper.whose, &self.stepper.engine.vm.handlers(), self.stepper.texts.len())
+    }
+
+    /// None where the run makes more steps than `cap`; then nothing can follow.
+    pub fn run(&mut self, sample: &Sample, image: usize, cap: usize, seen: &mut Coverage) -> Option<Told> {
+        let before = self.stepper.copy();
+        let told = match self.stepper.run(sample, image, cap, usize::MAX, seen) {
+            Ok(o) => self.ended(sample, image, o),
+            Err(Stopped::Past(step, question)) => {
+                self.stepper = before;
+                self.refused(sample, image, step, question)
+            }
+            Err(Stopped::Long) => return None,
+        };
+        seen.ends[told.end[0] as usize] += 1;
+        seen.steps += told.steps;
         seen.runs += 1;
-        let mut bytes = vec![question];
-        bytes.extend_from_slice(&(step as u32).to_be_bytes()[1..]);
-        bytes.extend_from_slice(&o.state);
-        bytes
+        Some(told)
+    }
+
+    fn ended(&mut self, sample: &Sample, image: usize, o: Observed) -> Told {
+        let r = self.engine.run(&sample.images[image].chunk(image));
+        let end = plain::engine::end(&r, &o.thrown);
+        let state = self.state();
+        assert_eq!(end, o.end, "the copy that is stepped ends otherwise");
+        assert_eq!(state, self.stepper.state(), "the copy that is stepped leaves something else");
+        let value = match r {
+            Ok(v) => v.to_js_string(),
+            Err(unchanged::JsVmError::UncaughtException { message }) => message,
+            Err(_) => "undefined".into(),
+        };
+        Told { refused: false, end, steps: o.steps, state, handlers: self.stepper.engine.vm.handler_count(), value }
+    }
+
+    /// A run whose step with this number is refused. Both copies stand again as before that step.
+    fn refused(&mut self, sample: &Sample, image: usize, step: usize, question: u8) -> Told {
+        self.stepper.run(sample, image, STEP_LIMIT, step - 1, &mut Coverage::new()).ok().expect("the steps before a refusal");
+        self.renew();
+        let state = self.state();
+        assert_eq!(state, self.stepper.state(), "the unchanged copy takes something else");
+        let handlers = self.stepper.engine.vm.handler_count();
+        Told { refused: true, end: vec![question], steps: step, state, handlers, value: "undefined".into() }
+    }
+
+    /// Gives an unchanged js_vm what the stepped one holds. It keeps its handlers to itself, so they are entered anew, each over as many operands and
+    /// frames as it saved.
+    fn renew(&mut self) {
+        let from = &self.stepper.engine.vm;
+        let mut vm = unchanged::JsVm::new();
+        let frame = |f: &stepped::js_vm::CallFrame| unchanged::CallFrame {
+            function_id: f.function_id,
+            ip: f.ip,
+            base_slot: f.base_slot,
+            locals: f.locals.iter().map(same).collect(),
+            bytecode: f.bytecode.clone(),
+            constants: f.constants.clone(),
+        };
+        let empty = unchanged::CallFrame { function_id: usize::MAX, ip: 0, base_slot: 0, locals: Vec::new(), bytecode: Vec::new(), constants: Vec::new() };
+        for [place, operands, frames] in from.handlers() {
+            vm.stack = vec![unchanged::JsValue::Undefined; operands];
+            vm.call_stack = vec![empty.clone(); frames - 1];
+            let bytecode = vec![75, (place >> 8) as u8, place as u8, 255];
+            vm.run_chunk(&Chunk { bytecode, constants: Vec::new(), line_numbers: Vec::new() }).ok().expect("a try is entered");
+        }
+        vm.stack = from.stack.iter().map(same).collect();
+        vm.call_stack = from.call_stack.iter().map(frame).collect();
+        vm.globals = from.globals.iter().map(|(n, v)| (n.clone(), same(v))).collect();
+        vm.object_arena = from
+            .object_arena
+            .iter()
+            .map(|o| unchanged::JsObject {
+                properties: o.properties.iter().map(|(k, v)| (k.clone(), same(v))).collect(),
+                prototype: o.prototype,
+                internal_type: match o.internal_type {
+                    stepped::js_vm::ObjectType::Array => unchanged::ObjectType::Array,
+                    _ => unchanged::ObjectType::Ordinary,
+                },
+            })
+            .collect();
+        vm.function_arena = from.function_arena.clone();
+        vm.output = from.output.clone();
+        self.engine = plain::engine::Engine { vm };
     }
 }

@@ -55,52 +55,76 @@ fn word(out: &mut Vec<u8>, n: usize) {
     out.extend_from_slice(&(n as u16).to_be_bytes());
 }
 
-/// An image's bytes, from the front.
+/// An image's bytes, from the front. A read answers with document 01's number where the item is not good.
 struct Reader<'a>(&'a [u8]);
 
 impl<'a> Reader<'a> {
-    fn bytes(&mut self, n: usize) -> &'a [u8] {
+    fn bytes(&mut self, n: usize) -> Result<&'a [u8], u8> {
+        if self.0.len() < n {
+            return Err(1);
+        }
         let (now, later) = self.0.split_at(n);
         self.0 = later;
-        now
+        Ok(now)
     }
 
-    fn word(&mut self) -> usize {
-        let b = self.bytes(2);
-        usize::from(b[0]) << 8 | usize::from(b[1])
+    fn byte(&mut self) -> Result<u8, u8> {
+        Ok(self.bytes(1)?[0])
     }
 
-    fn constant(&mut self) -> Const {
-        match self.bytes(1)[0] {
-            0 => Const::Number(i64::from_be_bytes(self.bytes(8).try_into().unwrap())),
+    fn word(&mut self) -> Result<usize, u8> {
+        let b = self.bytes(2)?;
+        Ok(usize::from(b[0]) << 8 | usize::from(b[1]))
+    }
+
+    /// A constant of template `own` of `count`.
+    fn constant(&mut self, own: usize, count: usize) -> Result<Const, u8> {
+        Ok(match self.byte()? {
+            0 => Const::Number(i64::from_be_bytes(self.bytes(8)?.try_into().unwrap())),
             1 => {
-                let n = self.word();
-                Const::Text(self.bytes(n).to_vec())
+                let n = self.word()?;
+                let s = self.bytes(n)?;
+                if !s.is_ascii() {
+                    return Err(5);
+                }
+                Const::Text(s.to_vec())
             }
-            2 => Const::Boolean(self.bytes(1)[0] == 1),
+            2 => match self.byte()? {
+                0 => Const::Boolean(false),
+                1 => Const::Boolean(true),
+                _ => return Err(4),
+            },
             3 => Const::Null,
             4 => Const::Undefined,
-            5 => Const::Function(self.word()),
-            k => panic!("a constant of kind {}", k),
-        }
+            5 => match self.word()? {
+                t if own < t && t < count => Const::Function(t),
+                _ => return Err(6),
+            },
+            _ => return Err(3),
+        })
     }
 
-    fn template(&mut self) -> Template {
-        let (parameters, locals, n) = (self.word(), self.word(), self.word());
-        let constants = (0..n).map(|_| self.constant()).collect();
-        let n = self.word();
-        Template { parameters, locals, constants, code: self.bytes(n).to_vec() }
+    fn template(&mut self, own: usize, count: usize) -> Result<Template, u8> {
+        let (parameters, locals, n) = (self.word()?, self.word()?, self.word()?);
+        let constants = (0..n).map(|_| self.constant(own, count)).collect::<Result<_, _>>()?;
+        let n = self.word()?;
+        Ok(Template { parameters, locals, constants, code: self.bytes(n)?.to_vec() })
     }
 }
 
 impl Image {
-    /// The image that these bytes are. They must be good.
-    pub fn read(bytes: &[u8]) -> Image {
+    /// The image that these bytes are, or document 01's number, 1 to 7, of the first question that they fail.
+    pub fn read(bytes: &[u8]) -> Result<Image, u8> {
         let mut r = Reader(bytes);
-        let n = r.word();
-        let templates = (0..n).map(|_| r.template()).collect();
-        assert!(r.0.is_empty(), "bytes left over");
-        Image { templates }
+        let count = r.word()?;
+        if count < 1 || count > 256 {
+            return Err(2);
+        }
+        let templates = (0..count).map(|own| r.template(own, count)).collect::<Result<_, _>>()?;
+        if !r.0.is_empty() {
+            return Err(7);
+        }
+        Ok(Image { templates })
     }
 
     /// The image as document 01 lays it out, and the place and bytes of each text constant in it.

@@ -15,4 +15,23 @@ impl JsVm {
     pub fn handlers(&self) -> Vec<[usize; 3]> {
         self.try_stack.iter().map(|t| [t.catch_ip, t.stack_depth, t.call_depth]).collect()
     }
+
+    pub fn handler_count(&self) -> usize {
+        self.try_stack.len()
+    }
+
+    /// A machine that holds the same.
+    pub fn copy(&self) -> JsVm {
+        JsVm {
+            stack: self.stack.clone(),
+            call_stack: self.call_stack.clone(),
+            globals: self.globals.clone(),
+            object_arena: self.object_arena.clone(),
+            function_arena: self.function_arena.clone(),
+            try_stack: self.try_stack.clone(),
+            output: self.output.clone(),
+            max_stack: self.max_stack,
+            max_steps: self.max_steps,
+        }
+    }
 }

@@ -1,8 +1,9 @@
 //! Writes the list of crates/replay: programs, and what the Rust of documents 000 to 002 came to on each. README.md has the format.
 
 use crate::plain::engine::{counted, given, value, word};
-use crate::runs::{Both, Coverage, Stopped, STEP_LIMIT};
+use crate::runs::{Both, Coverage, STEP_LIMIT};
 use crate::sample::{Action, Const, Given, Plain, Rng, Sample};
+use crate::words::Words;
 use crate::{images, specials};
 
 #[path = "programs.rs"]
@@ -48,22 +49,23 @@ impl<'a> Program<'a> {
         }
     }
 
-    fn run(&mut self, image: usize, cap: usize, seen: &mut Coverage) -> Result<(), Stopped> {
+    /// False where nothing can follow: the run is refused for space.
+    fn run(&mut self, image: usize, cap: usize, seen: &mut Coverage) -> Option<bool> {
         if self.both.engine.vm.call_stack.len() == 64 {
             self.out.extend_from_slice(&[7, image as u8, 11]);
-            return Ok(());
+            return Some(true);
         }
         let told = self.both.run(self.sample, image, cap, seen)?;
         self.out.extend_from_slice(&[2, image as u8]);
-        self.out.extend_from_slice(&told.bytes);
-        Ok(())
+        self.out.extend_from_slice(&told.bytes());
+        Some(!told.refused)
     }
 
-    /// Registration and globals of the host are left out unless they are asked for.
-    fn call(&mut self, action: &Action, cap: usize, seen: &mut Coverage) -> Result<(), Stopped> {
+    /// Registration and globals of the host are left out unless they are asked for. None where a run is too long, false where nothing can follow.
+    fn call(&mut self, action: &Action, cap: usize, seen: &mut Coverage) -> Option<bool> {
         match action {
             Action::Load => self.load(),
-            Action::Run(i) => self.run(*i, cap, seen)?,
+            Action::Run(i) => return self.run(*i, cap, seen),
             Action::Drain => {
                 self.out.push(3);
                 self.out.extend_from_slice(&self.both.drain());
@@ -93,27 +95,17 @@ impl<'a> Program<'a> {
             }
             Action::Register(..) | Action::SetGlobal(..) | Action::ReadGlobal(..) => {}
         }
-        Ok(())
+        Some(true)
     }
 }
 
 /// A program with its answers; None where a run is too long. A run that is refused for space is its last call.
 fn program(sample: &Sample, cap: usize, host: bool, seen: &mut Coverage) -> Option<Vec<u8>> {
     let mut p = Program::new(sample, host);
-    for (n, action) in sample.actions.iter().enumerate() {
-        let (step, question) = match p.call(action, cap, seen) {
-            Ok(()) => continue,
-            Err(Stopped::Long) => return None,
-            Err(Stopped::Past(step, question)) => (step, question),
-        };
-        let Action::Run(i) = action else { unreachable!() };
-        let mut again = Program::new(sample, host);
-        for earlier in &sample.actions[..n] {
-            again.call(earlier, cap, &mut Coverage::new()).ok().expect("the same as before");
+    for action in &sample.actions {
+        if !p.call(action, cap, seen)? {
+            break;
         }
-        again.out.extend_from_slice(&[2, *i as u8]);
-        again.out.extend_from_slice(&again.both.refused(sample, *i, step, question, seen));
-        return (again.out.len() <= MOST).then_some(again.out);
     }
     (p.out.len() <= MOST).then_some(p.out)
 }
@@ -161,18 +153,9 @@ impl List {
 }
 
 pub fn main() {
-    let (mut seed, mut count, mut host, mut out) = (1u64, 3000usize, false, String::new());
-    let mut args = std::env::args().skip(1);
-    while let Some(a) = args.next() {
-        let v = args.next().unwrap_or_else(|| panic!("{} takes a value", a));
-        match a.as_str() {
-            "--seed" => seed = v.parse().expect("a number"),
-            "--count" => count = v.parse().expect("a number"),
-            "--host" => host = v == "1",
-            "--out" => out = v,
-            _ => panic!("unknown word {}", a),
-        }
-    }
+    let words = Words::read(&["seed", "count", "host", "out"]);
+    let (seed, count) = (words.number("seed", 1u64), words.number("count", 3000usize));
+    let (host, out) = (words.text("host") == Some("1"), words.text("out").expect("--out FILE"));
     let mut seen = Coverage::new();
     let mut list = List { host, ..List::default() };
     for s in specials::long().iter().chain(&specials::short()) {
@@ -201,7 +184,7 @@ pub fn main() {
         list.add(&s, 3000, &mut seen);
     }
     let bytes = list.bytes(seen.runs);
-    std::fs::write(&out, &bytes).expect("the file is written");
+    std::fs::write(out, &bytes).expect("the file is written");
     // what crates/replay is to print
     println!("{} programs, {} runs, 0 differ", list.programs.len(), seen.runs);
     let mut kinds: Vec<&str> = list.programs.iter().map(|p| p.0).collect();

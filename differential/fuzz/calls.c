@@ -1,0 +1,262 @@
+/* A fuzz target over the C interface, for libFuzzer: raw bytes as a list of calls. The library is not instrumented, so every store, given text and buffer ends
+   at a page that cannot be touched and begins behind bytes that are looked at afterwards; what comes of the calls is told to the fuzzer in counters.
+
+   A call is a byte modulo 14, then its arguments (numbers high byte first; missing bytes are 0):
+     0 clear  1 load: size 2, bytes  2 register: 1, 1  3 set global: size 1, name, value  4 set global text: size 1, name, size 2, bytes
+     5 read global: size 1, name  6 run: 1  7 text: value, room 2  8 text of bytes: size 2, bytes, room 2  9 drain: room 2
+     10 load an image whose code is: size 1, bytes  11 write into a store: 1, place 2, size 1, bytes  12 set a count: 1, 8
+     13 lend the next call a store that is shorter: 1, by 2
+   A value is 1, 8, 8. After 11 or 12 the stores are nobody's: document 01 leaves the answers open until the next clear, and only asks that a call ends and
+   does nothing undefined. */
+#include <stdio.h>
+#include <stdlib.h>
+#include <string.h>
+#include <sys/mman.h>
+#include <unistd.h>
+
+#include "carderwheel.h"
+
+enum { STORES = 8, FRONT = 64, PATTERN = 0xa5 };
+
+static const size_t listed[STORES] = {CARDERWHEEL_CODE_BYTES, CARDERWHEEL_CODE_BYTES, CARDERWHEEL_CODE_BYTES, CARDERWHEEL_IMAGES,
+    CARDERWHEEL_STACK_WORDS, CARDERWHEEL_HEAP_WORDS, CARDERWHEEL_TEXT_BYTES, CARDERWHEEL_OUTPUT_BYTES};
+static const size_t width[STORES] = {1, 2, 2, 2, 8, 8, 1, 1};
+static const uint64_t most[13] = {1024, 2048, 64, 64, 65535, 1024, 512, 1024, 128, 32768, 16, 32768, 8192};
+
+static uint8_t *store[STORES];
+static size_t lent[STORES];
+static carderwheel_counts counts;
+static int owned; /* the stores are as calls left them */
+
+__attribute__((used, section("__libfuzzer_extra_counters"))) static uint8_t met[4096];
+
+static void wrong(const char *what) {
+    fprintf(stderr, "calls: %s\n", what);
+    abort();
+}
+
+/* Room for n bytes that ends where nothing may be touched; FRONT bytes before it have a pattern. */
+static uint8_t *guarded(size_t n) {
+    size_t page = (size_t)sysconf(_SC_PAGESIZE);
+    size_t size = (n + FRONT + page - 1) / page * page;
+    uint8_t *p = mmap(NULL, size + page, PROT_READ | PROT_WRITE, MAP_PRIVATE | MAP_ANONYMOUS, -1, 0);
+    if (p == MAP_FAILED || mprotect(p + size, page, PROT_NONE) != 0) wrong("no memory");
+    memset(p + size - n - FRONT, PATTERN, FRONT);
+    return p + size - n;
+}
+
+static void look(const uint8_t *p) {
+    for (int i = 1; i <= FRONT; i++)
+        if (p[-i] != PATTERN) wrong("bytes before a store are changed");
+}
+
+/* The input, front to back. */
+static const uint8_t *at, *end;
+
+static uint64_t number(int bytes) {
+    uint64_t n = 0;
+    for (; bytes > 0; bytes--) n = n << 8 | (at < end ? *at++ : 0);
+    return n;
+}
+
+/* Given bytes, in front of a page that cannot be touched; two at a time. */
+static uint8_t *room[2];
+enum { ROOM = 65536 };
+
+static const uint8_t *bytes(int which, size_t size, size_t *n) {
+    *n = (size_t)(end - at) < size ? (size_t)(end - at) : size;
+    uint8_t *p = room[which] + ROOM - *n;
+    memcpy(p, at, *n);
+    at += *n;
+    return p;
+}
+
+static carderwheel_value value(void) {
+    carderwheel_value v;
+    v.kind = number(1);
+    v.first = number(8);
+    v.second = number(8);
+    return v;
+}
+
+static unsigned size_of(uint64_t n) {
+    unsigned k = 0;
+    for (; n != 0; n >>= 1) k++;
+    return k;
+}
+
+/* A sum over all stores. */
+__attribute__((no_sanitize("address", "undefined"))) static uint64_t sum(void) {
+    uint64_t s = 1;
+    for (int i = 0; i < STORES; i++)
+        for (size_t k = 0; k < listed[i] * width[i]; k += 8) {
+            uint64_t w;
+            memcpy(&w, store[i] + k, 8);
+            s = (s ^ w) * 1099511628211u;
+        }
+    return s;
+}
+
+/* After a call: what it left in use, and, where a sum was made before it, that a refusal altered nothing. */
+static void settle(unsigned call, uint64_t answer, carderwheel_counts now, uint64_t before) {
+    if (answer > 33) wrong("a number that document 01 does not have");
+    met[call * 64 + answer] = 1;
+    for (int i = 0; i < STORES; i++) look(store[i]);
+    const uint64_t *n = (const uint64_t *)&now;
+    if (owned) {
+        for (int i = 0; i < 13; i++) {
+            if (n[i] > most[i]) wrong("a count beyond its store");
+            met[1024 + i * 32 + size_of(n[i])] = 1;
+        }
+    }
+    if (answer != 0 && before != 0) {
+        if (memcmp(&now, &counts, sizeof now) != 0) wrong("a refusal that alters a count");
+        if (sum() != before) wrong("a refusal that alters a store");
+    }
+    counts = now;
+}
+
+static void written(uint64_t answer, uint64_t amount, const uint8_t *buffer, size_t size) {
+    size_t own = answer == 0 ? amount : 0;
+    if (own > size) wrong("more bytes than the buffer has");
+    for (size_t i = own; i < size; i++)
+        if (buffer[i] != PATTERN) wrong("a buffer is changed behind the bytes written");
+}
+
+/* An image of two templates with these bytes for code, and constants of every kind. */
+static const uint8_t *image_of(const uint8_t *code, size_t size, size_t *n) {
+    static const uint8_t constants[] = {0, 0, 0, 0, 7, 0, 0, 0, 0, 1, 0, 7, 'c', 'o', 'n', 's', 'o', 'l', 'e', 1, 0, 6, 'l', 'e', 'n', 'g', 't', 'h',
+        1, 0, 1, 'f', 1, 0, 2, '+', '5', 2, 1, 3, 4, 0, 0xff, 0xff, 0xff, 0xff, 0x80, 0, 0, 0};
+    uint8_t *p = room[0];
+    size_t k = 0;
+    p[k++] = 0, p[k++] = 2;
+    for (int t = 0; t < 2; t++) {
+        p[k++] = 0, p[k++] = (uint8_t)t, p[k++] = 0, p[k++] = (uint8_t)(2 * t);
+        p[k++] = 0, p[k++] = (uint8_t)(t == 0 ? 10 : 9);
+        memcpy(p + k, constants, sizeof constants);
+        k += sizeof constants;
+        if (t == 0) p[k++] = 5, p[k++] = 0, p[k++] = 1;
+        size_t half = t == 0 ? size - size / 3 : size / 3;
+        p[k++] = 0, p[k++] = (uint8_t)half;
+        memcpy(p + k, code, half);
+        code += half;
+        k += half;
+    }
+    *n = k;
+    memmove(room[0] + ROOM - k, p, k);
+    return room[0] + ROOM - k;
+}
+
+#define LENT                                                                                                                                          \
+    store[0], lent[0], (uint16_t *)store[1], lent[1], (uint16_t *)store[2], lent[2], (uint16_t *)store[3], lent[3], (uint64_t *)store[4], lent[4],    \
+        (uint64_t *)store[5], lent[5], store[6], lent[6], store[7], lent[7], counts
+
+static void host_call(unsigned call) {
+    static unsigned turn;
+    size_t n, m;
+    /* once in a while: a sum takes longer than most calls */
+    uint64_t before = turn++ % 64 == 0 ? sum() : 0;
+    carderwheel_answer_ a;
+    switch (call) {
+    case 0:
+        a = carderwheel_clear_in(LENT);
+        if (a.number == 0) owned = 1;
+        break;
+    case 1: {
+        const uint8_t *image = bytes(0, number(2), &n);
+        a = carderwheel_load_in(LENT, image, n);
+        break;
+    }
+    case 2: {
+        uint64_t image = number(1), t = number(1);
+        a = carderwheel_register_in(LENT, image, t);
+        break;
+    }
+    case 3: {
+        const uint8_t *name = bytes(0, number(1), &n);
+        carderwheel_value v = value();
+        a = carderwheel_set_global_in(LENT, name, n, v);
+        break;
+    }
+    case 4: {
+        const uint8_t *name = bytes(0, number(1), &n), *given = bytes(1, number(2), &m);
+        a = carderwheel_set_global_text_in(LENT, name, n, given, m);
+        break;
+    }
+    case 5: {
+        const uint8_t *name = bytes(0, number(1), &n);
+        carderwheel_valued_ r = carderwheel_read_global_in(LENT, name, n);
+        a.number = r.number, a.counts = counts;
+        if (r.number == 0) met[2048 + r.value.kind % 64] = 1;
+        break;
+    }
+    case 6: {
+        carderwheel_told_ r = carderwheel_run_in(LENT, number(1));
+        if (r.ran.steps > 100000) wrong("more than 100,000 steps");
+        if (r.ran.started > 1 || (r.ran.started == 0 && (r.ran.number == 0 || r.ran.steps != 0))) wrong("a run that is neither begun nor refused");
+        if (r.ran.started == 1) {
+            before = 0;
+            met[2176 + size_of(r.ran.steps)] = 1;
+            met[2240 + r.ran.number * 8 + r.ran.value.kind % 8] = 1;
+        }
+        a.number = r.ran.number, a.counts = r.counts;
+        break;
+    }
+    case 7:
+    case 8:
+    case 9: {
+        const uint8_t *given = room[0] + ROOM;
+        carderwheel_value v = {0, 0, 0};
+        n = 0;
+        if (call == 7) v = value();
+        if (call == 8) given = bytes(0, number(2), &n);
+        size_t size = number(2);
+        uint8_t *buffer = room[1] + ROOM - size;
+        memset(buffer, PATTERN, size);
+        a = call == 7 ? carderwheel_text_in(LENT, v, buffer, size)
+          : call == 8 ? carderwheel_text_bytes_in(LENT, given, n, buffer, size)
+                      : carderwheel_drain_in(LENT, buffer, size);
+        written(a.number, a.amount, buffer, size);
+        break;
+    }
+    default: {
+        const uint8_t *code = bytes(1, number(1), &n), *image = image_of(code, n, &m);
+        a = carderwheel_load_in(LENT, image, m);
+        if (owned && a.number != 0 && a.number != 8 && a.number != 9 && a.number != 33) wrong("a good image is refused");
+        break;
+    }
+    }
+    settle(call, a.number, a.counts, before);
+}
+
+int LLVMFuzzerTestOneInput(const uint8_t *data, size_t size) {
+    if (store[0] == NULL) {
+        for (int i = 0; i < STORES; i++) store[i] = guarded(listed[i] * width[i]);
+        for (int i = 0; i < 2; i++) room[i] = guarded(ROOM);
+    }
+    at = data, end = data + size;
+    memcpy(lent, listed, sizeof lent);
+    owned = 0;
+    host_call(0);
+    while (at < end) {
+        unsigned call = (unsigned)number(1) % 14;
+        if (call <= 10) {
+            host_call(call);
+            memcpy(lent, listed, sizeof lent);
+        } else if (call == 11) {
+            size_t k = number(1) % STORES, place = number(2) * width[k], n, left;
+            const uint8_t *b = bytes(0, number(1), &n);
+            left = listed[k] * width[k] > place ? listed[k] * width[k] - place : 0;
+            memcpy(store[k] + place - (left == 0 ? place : 0), b, n < left ? n : left);
+            owned = 0;
+        } else if (call == 12) {
+            size_t k = number(1) % 13;
+            ((uint64_t *)&counts)[k] = number(8);
+            owned = 0;
+        } else {
+            size_t k = number(1) % STORES, by = number(2);
+            lent[k] -= by < lent[k] ? by : lent[k];
+        }
+    }
+    return 0;
+}
