@@ -1,4 +1,6 @@
 //! A run: its steps, counted, and its answer.
+mod speed;
+
 use heapops::Counts;
 use heapops::How;
 use heapops::with_depths;
@@ -109,7 +111,7 @@ pub fn end_value(e: Ending) -> Value
 // `max_steps`
 pub const MAX_STEPS: usize = 100000;
 
-// The steps of a run, counted. The template that runs is kept while the newest frame is one of it.
+// The steps of a run, counted: quick ones as long as they come, then one by the dispatcher.
 pub fn run_loop(
     c: Counts,
     code: &[u8],
@@ -130,6 +132,9 @@ pub fn run_loop(
     let mut d = c;
     let mut steps: usize = 0;
     while steps < MAX_STEPS {
+        let q = speed::speed(x, d, steps, code, places, rows, starts, stacks);
+        d = q.counts;
+        steps = q.steps;
         x = fetch::current(x, d.depths, stacks, rows, starts, d.images);
         let r = dispatch::step(x, d.depths, code, d.code, places, stacks, text, d.text);
         steps += 1;

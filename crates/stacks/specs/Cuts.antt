@@ -143,5 +143,5 @@ module _ (d : Depths) (w : List ℕ) (good : View.Ready d w) where
       pub slot-off : i < f .count → d .slots ≤ f .base + i → M.undefined ≡ View.slotOf d w i
       slot-off h o = sym (at-top ∙ rw (lt-ltb i (f .count) h) (row-past (d .slots) (λ i. valueAt w (slotsAt + 3 * i)) (f .base + i) M.undefined o))
 
-      pub slot-at : (v : Value) → i < f .count → f .base + i < d .slots → valueOf v ≡ valueAt w (slotsAt + 3 * (f .base + i)) → valueOf v ≡ View.slotOf d w i
+      pub slot-at : (v : M.Value) → i < f .count → f .base + i < d .slots → v ≡ valueAt w (slotsAt + 3 * (f .base + i)) → v ≡ View.slotOf d w i
       slot-at v h o q = q ∙ sym (at-top ∙ rw (lt-ltb i (f .count) h) (row-at (d .slots) (λ i. valueAt w (slotsAt + 3 * i)) (f .base + i) M.undefined o))

@@ -20,7 +20,7 @@ use Rattle.machine.specs.Out.{Out, went, ended, refused, out, out-make, out-err
 use Rattle.machine.specs.Error.{JsVmError, stackOverflow, noCallFrame}
 use Rattle.value.specs.declared.Value.{Value}
 use Rattle.value.specs.declared.JsVmError.the-variants.{StackOverflow, NoCallFrame}
-use Rattle.value.specs.Words.{valueOf, valueAt, setValue, value-same, value-reads, value-apart, length-setValue}
+use Rattle.value.specs.Words.{valueOf, valueAt, setValue, value-reads, length-setValue, Holds, holds-set}
 use Rattle.value.specs.Arena.{Same, Apart, apart-below, apart-above, stack-kept, rows-kept, set3, set3-apart, set3-first, set3-second, set3-third}
 use Rattle.value.specs.Lists.{stackOf, rowOf, stack-none, stack-push, stack-pop, stack-length, stack-rest, stack-drop}
 use Rattle.stacks.specs.declared.Depths.{Depths}
@@ -65,28 +65,33 @@ withHandlers n d = record { operands = d .operands; slots = d .slots; frames = d
 -- Operands
 
 module _ (d : Depths) (w : List ℕ) (good : View.Ready d w) where
-  pub pushed : (v : Value) (s : St.State) → d .operands < operandLimit
-      → View.onStacks (withOperands (d .operands + 1) d) (setValue w (3 * d .operands) v) s ≡ A.apply (A.push (valueOf v)) (View.onStacks d w s)
-  pushed v s h =
+  pushed : (v : M.Value) (w′ : List ℕ) (s : St.State) → d .operands < operandLimit → Holds w w′ (3 * d .operands) v
+      → View.onStacks (withOperands (d .operands + 1) d) w′ s ≡ A.apply (A.push v) (View.onStacks d w s)
+  pushed v w′ s h e =
       let n = d .operands in
-      let w′ = setValue w (3 * n) v in
-      let a : Apart w w′ (3 * n) (3 * n + 3) = value-apart w (3 * n) v in
+      let a : Apart w w′ (3 * n) (3 * n + 3) = e .apart in
       let o : View.operandsOf w′ n ≡ View.operandsOf w n = operands-kept w w′ n (apart-below a 0 (0 + 3 * n) (omega arith)) in
       let l : View.slotsOf w′ (d .slots) ≡ View.slotsOf w (d .slots) = slots-kept w w′ (d .slots) (apart-above a slotsAt (slotsAt + 3 * d .slots) (omega (arith, good .operands))) in
       let f : View.rowsOf w′ (d .frames) ≡ View.rowsOf w (d .frames) = frames-kept w w′ (d .frames) (apart-above a framesAt (framesAt + 5 * d .frames) (omega (arith, good .operands))) in
       let g : View.handlersOf w′ (d .handlers) ≡ View.handlersOf w (d .handlers) = handlers-kept w w′ (d .handlers) (apart-above a handlersAt (handlersAt + 3 * d .handlers) (omega (arith, good .operands))) in
       let z : 0 + 3 * n ≡ 3 * n = omega arith in
-      let t : valueAt w′ (0 + 3 * n) ≡ valueOf v = ap (valueAt w′) z ∙ value-same w (3 * n) v (omega (arith, good .size)) in
+      let t : valueAt w′ (0 + 3 * n) ≡ v = ap (valueAt w′) z ∙ e .value in
       rw (stack-push (λ i. valueAt w′ (0 + 3 * i)) n, t, o, l, f, g)
 
-  -- the contract of push, each way
+  -- the contract of push, each way: v stands on top now
+  pub push-holds : (v : M.Value) (w′ : List ℕ) → d .operands < operandLimit → Holds w w′ (3 * d .operands) v → length w′ ≡ length w
+      → View.Makes (A.push v) d w (Went (withOperands (d .operands + 1) d)) w′
+  push-holds v w′ h e l = record {
+    goes = λ s p. out-make (View.onStacks d w s) (A.push v) p (rw (stack-length, lt-ltb (d .operands) operandLimit h)) Asked.all
+        ∙ ap (out p) (sym (pushed v w′ s h e));
+    ready = record { operands = omega arith; slots = good .slots; frames = good .frames; handlers = good .handlers; size = l ∙ good .size };
+  }
+
   pub push-went : (v : Value) (w′ : List ℕ) → d .operands < operandLimit → w′ ≡ setValue w (3 * d .operands) v
       → View.Makes (A.push (valueOf v)) d w (Went (withOperands (d .operands + 1) d)) w′
-  push-went v w′ h e = record {
-    goes = λ s p. out-make (View.onStacks d w s) (A.push (valueOf v)) p (rw (stack-length, lt-ltb (d .operands) operandLimit h)) Asked.all
-        ∙ ap (out p) (sym (ap (λ (x : List ℕ). View.onStacks (withOperands (d .operands + 1) d) x s) e ∙ pushed v s h));
-    ready = record { operands = omega arith; slots = good .slots; frames = good .frames; handlers = good .handlers; size = rw (e, length-setValue) (good .size) };
-  }
+  push-went v w′ h e =
+      let q : 3 * d .operands + 2 < length w = omega (arith, good .size) in
+      push-holds (valueOf v) w′ h (rw e (holds-set w (3 * d .operands) v q)) (rw e (length-setValue w (3 * d .operands) v))
 
   pub push-full : (v : M.Value) → operandLimit ≤ d .operands → View.Makes (A.push v) d w (Failed StackOverflow) w
   push-full v h = record {
@@ -95,15 +100,18 @@ module _ (d : Depths) (w : List ℕ) (good : View.Ready d w) where
   }
 
   -- the contract of pop
+  pub pop-state : (v : M.Value) → (d .operands ≡ 0 → ⊥) → v ≡ valueAt w (3 * (d .operands - 1)) → (s : St.State) → View.onStacks d w s ≡ A.apply (A.push v) (View.onStacks (withOperands (d .operands - 1) d) w s)
+  pop-state v h e s =
+      let n = d .operands in
+      let z : 0 + 3 * (n - 1) ≡ 3 * (n - 1) = omega arith in
+      let t : View.operandsOf w n ≡ v ∷ View.operandsOf w (n - 1) = stack-pop (λ i. valueAt w (0 + 3 * i)) n h ∙ ap (λ (x : M.Value). x ∷ View.operandsOf w (n - 1)) (ap (valueAt w) z ∙ sym e) in
+      ap (λ (x : List M.Value). View.under x (View.slotsOf w (d .slots)) (View.framesOf w (d .frames) (d .ip)) (View.handlersOf w (d .handlers)) s) t
+
+  pub pop-ready : View.Ready (withOperands (d .operands - 1) d) w
+  pop-ready = record { operands = omega (arith, good .operands); slots = good .slots; frames = good .frames; handlers = good .handlers; size = good .size }
+
   pub pop-took : (v : Value) → (d .operands ≡ 0 → ⊥) → valueOf v ≡ valueAt w (3 * (d .operands - 1)) → View.Pops d w (Took v (withOperands (d .operands - 1) d))
-  pop-took v h e = record {
-    state = λ s.
-        let n = d .operands in
-        let z : 0 + 3 * (n - 1) ≡ 3 * (n - 1) = omega arith in
-        let t : View.operandsOf w n ≡ valueOf v ∷ View.operandsOf w (n - 1) = stack-pop (λ i. valueAt w (0 + 3 * i)) n h ∙ ap (λ (x : M.Value). x ∷ View.operandsOf w (n - 1)) (ap (valueAt w) z ∙ sym e) in
-        ap (λ (x : List M.Value). View.under x (View.slotsOf w (d .slots)) (View.framesOf w (d .frames) (d .ip)) (View.handlersOf w (d .handlers)) s) t;
-    ready = record { operands = omega (arith, good .operands); slots = good .slots; frames = good .frames; handlers = good .handlers; size = good .size };
-  }
+  pop-took v h e = record { state = pop-state (valueOf v) h e; ready = pop-ready }
 
   pub pop-none : d .operands ≡ 0 → View.Pops d w Empty
   pop-none e = record { state = rw e (stack-none (λ i. valueAt w (0 + 3 * i))); ready = tt }

@@ -6,3 +6,4 @@ pub mod Slots
 pub mod Enters
 pub mod Arguments
 pub mod Popped
+pub mod Places

@@ -6,9 +6,9 @@ use native.Mathlib.Decide.{decLt, ℕ-discrete}
 use mathlib.Core.Bool.{Bool, true, false}
 use mathlib.Core.Option.{Option, none, some}
 use mathlib.Core.List.{List, [], _∷_, _++_, append-assoc, append-nil}
-use mathlib.Core.Path.{_≡_, refl, sym, ap, _∙_}
+use mathlib.Core.Path.{_≡_, refl, sym, ap, subst, _∙_}
 use lib.ListN.{length, getD, set, take, drop, replicate, length-set, replicate-append-replicate}
-use lib.Seq.{getD-set-same, getD-set-other, set-out}
+use lib.Seq.{getD-set-same, getD-set-other, set-out, set-getD}
 use borrow.Author.Tests.{lt-ltb, le-ltb, le-leb, lt-leb}
 use Rattle.machine.specs.Value as M
 use Rattle.machine.specs.State as St
@@ -16,7 +16,7 @@ use Rattle.machine.specs.Act as A
 use Rattle.machine.specs.Out.{out, out-make, out-refused, Asked}
 use Rattle.value.specs.declared.Value.{Value}
 use Rattle.value.specs.declared.Value.the-variants.{Undefined}
-use Rattle.value.specs.Words.{valueOf, valueAt, setValue, value-same, value-reads, value-apart, length-setValue}
+use Rattle.value.specs.Words.{valueOf, valueAt, setValue, value-same, value-reads, value-apart, length-setValue, Holds, holds-set}
 use Rattle.value.specs.Arena.{Same, Apart, apart-below, apart-above}
 use Rattle.value.specs.Lists.{stackOf, rowOf, stack-none, stack-pop, stack-length, row-append, row-ext, row-length, row-none}
 use Rattle.stacks.specs.declared.Depths.{Depths}
@@ -68,13 +68,15 @@ row-set {A} (suc n) (suc j) f g x h e o = rw (o 0 (λ q. omega arith)) (ap {B = 
 pub put-past : (w : List ℕ) (n j : ℕ) (v : M.Value) → n ≤ j → View.Puts w w n j v
 put-past w n j v h = record { slots = sym (set-out (View.slotsOf w n) j v (rw row-length h)); apart = record { at = λ i q. refl } }
 
+pub put-holds : (w w′ : List ℕ) (n j : ℕ) (v : M.Value) → j < n → n ≤ slotLimit → Holds w w′ (slotsAt + 3 * j) v → View.Puts w w′ n j v
+put-holds w w′ n j v h l e = record {
+  slots = row-set n j (λ i. valueAt w (slotsAt + 3 * i)) (λ i. valueAt w′ (slotsAt + 3 * i)) v h (e .value)
+      (λ i q. value-reads w w′ (slotsAt + 3 * i) (λ k a b. e .apart .at k (λ x y. q (omega arith))));
+  apart = record { at = λ k q. e .apart .at k (λ x y. q (omega arith) (omega arith)) };
+}
+
 pub put-at : (w w′ : List ℕ) (n j : ℕ) (v : Value) → j < n → n ≤ slotLimit → length w ≡ stackWords → w′ ≡ setValue w (slotsAt + 3 * j) v → View.Puts w w′ n j (valueOf v)
-put-at w w′ n j v h l m e = rw e (record {
-  slots = row-set n j (λ i. valueAt w (slotsAt + 3 * i)) (λ i. valueAt (setValue w (slotsAt + 3 * j) v) (slotsAt + 3 * i)) (valueOf v) h
-      (value-same w (slotsAt + 3 * j) v (omega arith))
-      (λ i q. value-reads w (setValue w (slotsAt + 3 * j) v) (slotsAt + 3 * i) (λ k a b. value-apart w (slotsAt + 3 * j) v .at k (λ x y. q (omega arith))));
-  apart = record { at = λ k q. value-apart w (slotsAt + 3 * j) v .at k (λ x y. q (omega arith) (omega arith)) };
-})
+put-at w w′ n j v h l m e = put-holds w w′ n j (valueOf v) h l (rw e (holds-set w (slotsAt + 3 * j) v (omega arith)))
 
 abbrev pub withSlots : ℕ → Depths → Depths
 withSlots n d = record { operands = d .operands; slots = n; frames = d .frames; handlers = d .handlers; ip = d .ip }
@@ -155,3 +157,19 @@ module _ (d : Depths) (w : List ℕ) (good : View.Ready d w) (i : ℕ) (v : M.Va
               ∙ sym (ap (out p) (rw (o, l, fr, g) refl));
           ready = record { operands = good .operands; slots = omega (arith, good .slots); frames = good .frames; handlers = good .handlers; size = l₃ ∙ good .size };
         }
+
+    -- the newest frame has slot i already
+    has-count : f .count ≡ getD w (framesAt + 5 * (d .frames - 1) + 4) 0
+    unfolding View.frameAt
+    has-count = ap (λ (x : St.Frame). x .count) e
+
+    pub store-holds : (w′ : List ℕ) → i < f .count → f .base + i < d .slots → View.Puts w w′ (d .slots) (f .base + i) v → length w′ ≡ length w → View.Makes (A.store i v) d w (Went d) w′
+    store-holds w′ h b p l =
+        let at = framesAt + 5 * (d .frames - 1) + 4 in
+        let z : more ≡ 0 = omega arith in
+        let n : d .slots + more ≡ d .slots = omega (arith, z) in
+        let c : f .count + more ≡ getD w at 0 = omega (arith, z, has-count) in
+        let same : w ≡ set w at (f .count + more) = sym (ap (set w at) c ∙ set-getD w at 0) in
+        subst (λ (y : ℕ). View.Makes (A.store i v) d w (Went (withSlots y d)) w′) n
+        (store-went w w w′ (omega (arith, z)) (subst (λ (y : ℕ). View.Filled w w (d .slots) y) (sym n) (fill-none w (d .slots))) refl same
+        (subst (λ (y : ℕ). View.Puts w w′ y (f .base + i) v) (sym n) p) l)

@@ -9,9 +9,10 @@ ghost use mathlib.Core.List.{[]};
 ghost use lib.ListN.{length};
 ghost use Rattle.machine.specs.State.{State};
 ghost use Rattle.machine.specs.Act.{push, pushHandler, store, pushFrame};
-ghost use Rattle.value.specs.Words.{valueOf};
+ghost use Rattle.value.specs.Words.{valueOf, valueAt};
 ghost use Rattle.stacks.specs.Layout.{slotLimit, frameLimit, slotsAt, framesAt, handlersAt, stackWords};
 ghost use Rattle.stacks.specs.View.{onStacks, Ready, Pops, Makes, PopsHandler, Truncates, Keeps, Cuts, PopsFrame, Unwinds, frameAt, frameOf, handlerAt, handlerOf, topOf, slotOf, Filled, Puts, Saves, setFrame, above, Copies, Passes, called};
+ghost use Rattle.stacks.specs.Places.{Stands};
 ghost use Rattle.stacks.specs.declared.Made.the-variants.{Went};
 ghost use Rattle.machine.specs.State.{operandLimit};
 
@@ -24,7 +25,7 @@ pub const FRAME_LIMIT: usize = 64;
 
 pub const HANDLER_LIMIT: usize = 64;
 
-const SLOTS_AT: usize = 3 * OPERAND_LIMIT;
+pub const SLOTS_AT: usize = 3 * OPERAND_LIMIT;
 
 pub const FRAMES_AT: usize = SLOTS_AT + 3 * SLOT_LIMIT;
 
@@ -52,6 +53,11 @@ pub enum Made {
 pub enum Popped {
     Took(Value, Depths),
     Empty,
+}
+
+pub enum Place {
+    At(usize),
+    Nowhere,
 }
 
 pub struct Frame {
@@ -110,6 +116,38 @@ pub fn push(d: Depths, stacks: &mut [u64], v: Value) -> Made
     let n = d.operands;
     if n < OPERAND_LIMIT {
         value::write(stacks, 3 * n, v);
+        let mut e = d;
+        e.operands = n + 1;
+        return Made::Went(e);
+    }
+    Made::Failed(JsVmError::StackOverflow)
+}
+
+// The value at place k of the store, pushed.
+pub fn push_copy(d: Depths, stacks: &mut [u64], k: usize) -> Made
+    requires { ⌜ Ready d (now stacks) ⌝ }
+    requires { ⌜ k + 2 < stackWords ⌝ }
+    ensures { λ r. ⌜ Makes (push (valueAt (now (stacks .entry)) k)) d (now (stacks .entry)) r (now (stacks .exit)) ⌝ }
+{
+    let n = d.operands;
+    if n < OPERAND_LIMIT {
+        value::copy(stacks, 3 * n, k);
+        let mut e = d;
+        e.operands = n + 1;
+        return Made::Went(e);
+    }
+    Made::Failed(JsVmError::StackOverflow)
+}
+
+// The value at place k of another store, pushed.
+pub fn push_from(d: Depths, stacks: &mut [u64], source: &[u64], k: usize) -> Made
+    requires { ⌜ Ready d (now stacks) ⌝ }
+    requires { ⌜ k + 2 < length (now source) ⌝ }
+    ensures { λ r. ⌜ Makes (push (valueAt (now (source .entry)) k)) d (now (stacks .entry)) r (now (stacks .exit)) ⌝ }
+{
+    let n = d.operands;
+    if n < OPERAND_LIMIT {
+        value::bring(stacks, 3 * n, source, k);
         let mut e = d;
         e.operands = n + 1;
         return Made::Went(e);
@@ -262,28 +300,39 @@ pub fn unwind(d: Depths, h: Handler, stacks: &[u64]) -> Depths
     cut_frames(e, h.frames as usize, stacks)
 }
 
+// Where slot i of the newest frame stands.
+pub fn slot_place(d: Depths, stacks: &[u64], i: usize) -> Place
+    requires { ⌜ Ready d (now stacks) ⌝ }
+    ensures { λ r. ⌜ Stands d (now (stacks .entry)) i r ⌝ }
+{
+    let k = d.frames;
+    if k == 0 {
+        return Place::Nowhere;
+    }
+    let f = read_frame(stacks, FRAMES_AT + 5 * (k - 1));
+    if f.count <= i as u64 {
+        return Place::Nowhere;
+    }
+    let n = d.slots;
+    if n <= i {
+        return Place::Nowhere;
+    }
+    let b = f.base as usize;
+    if n - i <= b {
+        return Place::Nowhere;
+    }
+    Place::At(SLOTS_AT + 3 * (b + i))
+}
+
 // Slot i of the newest frame, or Undefined.
 pub fn read_slot(d: Depths, stacks: &[u64], i: usize) -> Value
     requires { ⌜ Ready d (now stacks) ⌝ }
     ensures { λ r. ⌜ valueOf r ≡ slotOf d (now (stacks .entry)) i ⌝ }
 {
-    let k = d.frames;
-    if k == 0 {
+    let Place::At(k) = slot_place(d, stacks, i) else {
         return Value::Undefined;
-    }
-    let f = read_frame(stacks, FRAMES_AT + 5 * (k - 1));
-    if f.count <= i as u64 {
-        return Value::Undefined;
-    }
-    let n = d.slots;
-    if n <= i {
-        return Value::Undefined;
-    }
-    let b = f.base as usize;
-    if n - i <= b {
-        return Value::Undefined;
-    }
-    value::read(stacks, SLOTS_AT + 3 * (b + i))
+    };
+    value::read(stacks, k)
 }
 
 // How many slots a frame with `count` of them lacks to have slot i.

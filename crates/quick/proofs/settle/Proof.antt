@@ -1,0 +1,27 @@
+use borrow.Author.Needs.{needs}
+use mathlib.Core.Path.{refl}
+use Rattle.quick.proofs.settle.Statement.{statement}
+use Rattle.quick.proofs.settle.Tie as tie
+use Rattle.quick.proofs.settle.Reads as reads
+use Rattle.quick.proofs.settle.Lts as lts
+
+enum-known-r : tie.Need-enum-known-r
+enum-known-r c = search needs
+
+enum-told : tie.Need-enum-told
+enum-told c = search needs
+
+enum-told-2 : tie.Need-enum-told-2
+enum-told-2 c = search needs
+
+returns : tie.Need-returns
+returns c = rw (c .before .r .given .1) refl
+
+returns-2 : tie.Need-returns-2
+returns-2 c = search needs
+
+returns-3 : tie.Need-returns-3
+returns-3 c = search needs
+
+pub settle-spec : {M : Type 1} → statement M
+settle-spec = tie.close (tie.spec enum-known-r enum-told enum-told-2 returns returns-2 returns-3)

@@ -1,0 +1,3 @@
+pub mod Quickly
+pub mod Numbers
+pub mod Senses
