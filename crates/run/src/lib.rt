@@ -132,7 +132,7 @@ pub fn run_loop(
     let mut d = c;
     let mut steps: usize = 0;
     while steps < MAX_STEPS {
-        let q = speed::speed(x, d, steps, code, places, rows, starts, stacks);
+        let q = speed::speed(x, d, steps, code, places, rows, starts, stacks, heap, text);
         d = q.counts;
         steps = q.steps;
         x = fetch::current(x, d.depths, stacks, rows, starts, d.images);

@@ -13,7 +13,7 @@ use Rattle.run.proofs.speed.sprint.Lts as lts
 use Rattle.quick.proofs.step.Reads as step-reads
 
 abbrev Inv-loop : tie.InvT-loop
-Inv-loop x steps code n places stacks₀ e₀ k₀ stacks e k = Sprints (Constants x n code places) e₀ stacks₀ k₀ (sprinted e k) stacks × (k < 100000) × (length stacks ≡ length stacks₀)
+Inv-loop x steps code n places stacks₀ e₀ k₀ stacks e k = Sprints (Constants x n code places) e₀ stacks₀ k₀ (sprinted e k) stacks × (k < 99999) × (length stacks ≡ length stacks₀)
 
 abbrev μ-loop : tie.MeasureT-loop
 μ-loop x steps code n places stacks₀ e₀ k₀ stacks e k = 100000 - k

@@ -1,0 +1,4 @@
+pub mod Reaches
+pub mod Values
+pub mod Names
+pub mod Calls
