@@ -9,6 +9,7 @@ use reader::Step;
 use reader::Tail;
 ghost use mathlib.Core.Path.{_≡_};
 ghost use mathlib.Core.List.{List, []};
+ghost use mathlib.Core.Option.{some};
 ghost use Prim.Native.Nat.{ℕ, _+_, _*_, _≤_, _<_};
 ghost use lib.ListN.{length, getD, getElem?};
 ghost use lib.Seq.{paste};
@@ -16,6 +17,7 @@ ghost use Rattle.machine.specs.State.{noTemplate};
 ghost use Rattle.reader.specs.Constants.{constantOf};
 ghost use Rattle.image.specs.View.{wordAt, wideAt, constantAt, constantsOf, imagesOf};
 ghost use Rattle.image.specs.Fills.{Fills, Small, Rowed, FillsOne, FillsAll, FillsImage};
+ghost use Rattle.image.specs.Near.{Nears};
 ghost use Rattle.image.specs.Load.{sizesListed, Loads, Fitting, AppendSays, spaceOf, spaceRefusal, templateFrom, foundOf};
 
 // The listed sizes. Both tables have an entry for each byte of code.
@@ -416,6 +418,45 @@ pub fn constant_at(code: &[u8], places: &[u16], t: FunctionTemplate, k: usize) -
     }
     let first = t.constants;
     FoundConstant::Is(held(code, entry_after(places, first, k)))
+}
+
+// The constant whose kind stands at place p, where nine bytes are there and it is no function.
+fn near_at(code: &[u8], p: usize) -> FoundConstant
+    requires { ⌜ (p < 65536) × (p + 9 ≤ length (now code)) ⌝ }
+    ensures { λ r. ⌜ Nears (some (constantAt (now (code .entry)) p)) r ⌝ }
+{
+    let q = p + 1;
+    match wide(code[p]) {
+        0 => {
+            let a = quad_at(code, q, 0);
+            FoundConstant::Is(Constant::Number(quad_at(code, q + 4, a)))
+        }
+        1 => {
+            let i = q + 1;
+            let from = p + 3;
+            let size = wide(code[q]) * 256 + wide(code[i]);
+            FoundConstant::Is(Constant::Str(from as u64, size))
+        }
+        2 => FoundConstant::Is(Constant::Bool(wide(code[q]) == 1)),
+        3 => FoundConstant::Is(Constant::Null),
+        4 => FoundConstant::Is(Constant::Undefined),
+        _ => FoundConstant::Missing,
+    }
+}
+
+// Constant k of a template, the quick way: where its bytes are sure to be there and it is no function. `Missing` says nothing of the constant.
+pub fn near(code: &[u8], places: &[u16], t: FunctionTemplate, k: usize) -> FoundConstant
+    ensures { λ r. ⌜ Nears (getElem? (constantsOf (now (code .entry)) (now (places .entry)) (t .constants) (t .«constant_count»)) k) r ⌝ }
+{
+    if t.constant_count <= k {
+        return FoundConstant::Missing;
+    }
+    let first = t.constants;
+    let p = entry_after(places, first, k);
+    if code.len() < p + 9 {
+        return FoundConstant::Missing;
+    }
+    near_at(code, p)
 }
 
 // Entry base + k, with no sum that could wrap.
