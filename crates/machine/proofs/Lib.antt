@@ -8,5 +8,6 @@ pub mod Programs
 pub mod Throw
 pub mod Steps
 pub mod Calls
+pub mod Unique
 pub mod Engine
 pub mod Ecma
