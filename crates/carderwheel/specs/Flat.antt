@@ -196,7 +196,7 @@ Is0 (H.wrote bs) = ⊥
 module _ {call : H.Call} {c : Counts} {g g′ : Tables} {m m′ : Mem} where
   refused-called : (n : ℕ) (a : H.Answer) → Called call c g m (H.refusal n) c g′ m′ → Called call c g m (byNumber n a) c g′ m′
   refused-called zero a x = record {
-    machine = λ e s. absurd (never-0 call (stateIn c g m) (x .machine e s .0));
+    machine = λ e s u. absurd (never-0 call (stateIn c g m) (x .machine e s u .0));
     unlent = λ e. absurd (subst Is0 (x .unlent e) tt);
     refused = λ n e. x .refused 0 refl;
     stands = x .stands;

@@ -8,6 +8,7 @@ use lib.ListN.{length}
 use Rattle.machine.specs.State as St
 use Rattle.machine.specs.State.{limit, operandLimit, codeStore, imageStore}
 use Rattle.machine.specs.Host as H
+use Rattle.machine.proofs.Unique.{Unique}
 use Rattle.value.specs.Words.{valueOf}
 use Rattle.value.specs.Lists.{bytesOf}
 use Rattle.texts.specs.Keeps.{textLimit, outputLimit}
@@ -62,9 +63,10 @@ imageCounts c = record { code = c .code; images = c .images }
 abbrev pub Stands : Counts → Tables → Type 0
 Stands c g = Sound (storesOf g) (imageCounts c)
 
--- THE CONTRACT OF A CALL: its answer and what it leaves are the machine's. A refusal alters nothing.
+-- THE CONTRACT OF A CALL: its answer and what it leaves are the machine's, over stores as calls leave them: the image tables stand, and no two rows have one key. A
+-- refusal alters nothing.
 pub record Called (call : H.Call) (c : Counts) (g : Tables) (m : Mem) (answer : H.Answer) (c′ : Counts) (g′ : Tables) (m′ : Mem) : Type 0 where
-  pub machine : lent c g m ≡ true → Stands c g → (H.perform call (stateIn c g m) .answer ≡ answer) × (H.perform call (stateIn c g m) .after ≡ stateIn c′ g′ m′)
+  pub machine : lent c g m ≡ true → Stands c g → Unique (stateIn c g m) → (H.perform call (stateIn c g m) .answer ≡ answer) × (H.perform call (stateIn c g m) .after ≡ stateIn c′ g′ m′)
   pub unlent : lent c g m ≡ false → answer ≡ H.refusal 33
   pub refused : (n : ℕ) → answer ≡ H.refusal n → (c′ ≡ c) × (g′ ≡ g) × (m′ ≡ m)
   pub stands : lent c g m ≡ true → Stands c g → (lent c′ g′ m′ ≡ true) × Stands c′ g′

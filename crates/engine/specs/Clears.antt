@@ -3,7 +3,7 @@ use Prim.Native.Nat.{ℕ}
 use native.Mathlib.Omega.{arith}
 use mathlib.Core.Bool.{Bool, true, false, false≢true, true≢false}
 use mathlib.Core.List.{List, []}
-use mathlib.Core.Path.{_≡_, refl, sym, ap, _∙_}
+use mathlib.Core.Path.{_≡_, refl, sym, ap, _∙_, subst}
 use Rattle.machine.specs.State as St
 use Rattle.value.specs.Lists.{stackOf, rowOf}
 use Rattle.texts.specs.Keeps.{onText, onOutput}
@@ -13,16 +13,13 @@ use Rattle.heap.specs.declared.Sizes.{Sizes}
 use Rattle.image.specs.View.{imagesOf}
 use Rattle.image.specs.Laws.{fresh-sound}
 use Rattle.heapops.specs.declared.Counts.{Counts}
-use Rattle.heapops.specs.Turns.{Mem, mem, below}
+use Rattle.heapops.specs.Turns.{Mem, mem, below, freshCounts}
 use Rattle.finish.specs.Parts.{Tables}
 use Rattle.run.specs.Runs.{groundOf, stateIn}
 use Rattle.engine.specs.declared.Changed.{Changed}
 use Rattle.engine.specs.declared.Changed.the-variants.{Done as Changed·Done, Refused as Changed·Refused}
 use Rattle.engine.specs.Calls.{sizesRight, lent, storesOf, Clears}
 use Rattle.engine.specs.Lent.{lengths, lent-by}
-
-abbrev pub none-used : Sizes → Counts
-none-used z = record { depths = record { operands = 0; slots = 0; frames = 0; handlers = 0; ip = 0 }; sizes = z; code = 0; images = 0; text = 0; output = 0 }
 
 abbrev is-done : Changed → Bool
 is-done (Changed·Done c) = true
@@ -35,17 +32,17 @@ module _ (g : Tables) (m : Mem) where
   pub clear-refused : sizesRight g m ≡ false → Clears g m (Changed·Refused 33) g m
   clear-refused e = record { told = (refl, refl, refl); asked = λ f. refl; granted = λ f n q. absurd (false≢true (sym e ∙ f)) }
 
-  fresh-under : (w t o : List ℕ) (z : Sizes) → Stacks.onStacks (none-used z .depths) w (Heap.freshHeap (below (none-used z) (mem w [] t o) (groundOf (none-used z) g))) ≡ St.fresh
+  fresh-under : (w t o : List ℕ) (z : Sizes) → Stacks.onStacks (freshCounts z .depths) w (Heap.freshHeap (below (freshCounts z) (mem w [] t o) (groundOf (freshCounts z) g))) ≡ St.fresh
   unfolding rowOf stackOf imagesOf
   fresh-under w t o z = refl
 
-  pub clear-done : {z : Sizes} {h : List ℕ} → sizesRight g m ≡ true → Heap.Clears z h → Clears g m (Changed·Done (none-used z)) g (mem (m .stacks) h (m .text) (m .output))
-  clear-done {z} {h} e k =
+  pub clear-done : {z : Sizes} {c : Counts} {h : List ℕ} → sizesRight g m ≡ true → Heap.Clears z h → c ≡ freshCounts z → Clears g m (Changed·Done c) g (mem (m .stacks) h (m .text) (m .output))
+  clear-done {z} {c} {h} e k q =
       let x = lengths g m e in let y = k .ready in
       let m′ = mem (m .stacks) h (m .text) (m .output) in
-      let fresh : stateIn (none-used z) g m′ ≡ St.fresh =
-      ap (λ (s : St.State). Stacks.onStacks (none-used z .depths) (m .stacks) s) (k .state (onText 0 (m .text) (onOutput 0 (m .output) (groundOf (none-used z) g)))) ∙ fresh-under (m .stacks) (m .text) (m .output) z in
-      let right : lent (none-used z) g m′ ≡ true = lent-by (none-used z) g m′
+      let fresh : stateIn (freshCounts z) g m′ ≡ St.fresh =
+      ap (λ (s : St.State). Stacks.onStacks (freshCounts z .depths) (m .stacks) s) (k .state (onText 0 (m .text) (onOutput 0 (m .output) (groundOf (freshCounts z) g)))) ∙ fresh-under (m .stacks) (m .text) (m .output) z in
+      let right : lent (freshCounts z) g m′ ≡ true = lent-by (freshCounts z) g m′
       (record { code = x .code; places = x .places; rows = x .rows; starts = x .starts; stacks = x .stacks; heap = y .size; text = x .text; output = x .output })
       (record {
         operands = omega arith;
@@ -61,8 +58,8 @@ module _ (g : Tables) (m : Mem) where
         text = omega arith;
         output = omega arith;
       }) in
-      record {
+      subst (λ (y : Counts). Clears g m (Changed·Done y) g m′) (sym q) (record {
         told = (fresh, right, fresh-sound (storesOf g));
         asked = λ f. absurd (false≢true (sym f ∙ e));
-        granted = λ f n q. cleared-not (none-used z) n q;
-      }
+        granted = λ f n q. cleared-not (freshCounts z) n q;
+      })

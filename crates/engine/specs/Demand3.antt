@@ -3,12 +3,13 @@
 -- So a list of calls that were made is a `Made`, step by step by what the functions ensure. Assumes nothing.
 use mathlib.Core.Bool.{true}
 use mathlib.Core.List.{List}
-use mathlib.Core.Path.{_≡_, refl, sym, ap, _∙_}
+use mathlib.Core.Path.{_≡_, refl, sym, ap, subst, _∙_}
 use Rattle.machine.specs.State.{State, fresh}
 use Rattle.machine.specs.Host as H
 use Rattle.machine.specs.Host.{perform, history, leaves}
 use Rattle.machine.specs.Demand3 as Machine
 use Rattle.machine.proofs.Engine as Machine·Engine
+use Rattle.machine.proofs.Unique.{Unique, unique-fresh, unique-perform}
 use Rattle.heapops.specs.declared.Counts.{Counts}
 use Rattle.heapops.specs.Turns.{Mem}
 use Rattle.finish.specs.Parts.{Tables}
@@ -32,6 +33,7 @@ pub record Holds (e : Engine) (s : State) : Type 0 where
   pub right : lent (e .counts) (e .tables) (e .mem) ≡ true
   pub stands : Stands (e .counts) (e .tables)
   pub state : stateIn (e .counts) (e .tables) (e .mem) ≡ s
+  pub unique : Unique s
 
 -- A call, its answer and what it leaves, as the contracts say. Clear takes no counts; where it is refused, those that stood still do.
 pub data Does : Engine → H.Call → H.Answer → Engine → Type 0 where
@@ -42,7 +44,7 @@ pub data Does : Engine → H.Call → H.Answer → Engine → Type 0 where
 -- what clear gives, over stores of listed size
 module _ {g g′ : Tables} {m m′ : Mem} where
   pub clear-holds : {c : Counts} → Clears g m (Changed·Done c) g′ m′ → Holds (engine c g′ m′) fresh
-  clear-holds k = record { right = k .told .1; stands = k .told .2; state = k .told .0 }
+  clear-holds k = record { right = k .told .1; stands = k .told .2; state = k .told .0; unique = unique-fresh }
 
   clears : (r : Changed) (c₀ c : Counts) (a : H.Answer) (s : State) → sizesRight g m ≡ true → Clears g m r g′ m′ → a ≡ answerOfChanged r → c ≡ countsOfChanged c₀ r
       → (a ≡ perform H.clear s .answer) × Holds (engine c g′ m′) (perform H.clear s .after)
@@ -52,9 +54,9 @@ module _ {g g′ : Tables} {m m′ : Mem} where
 -- A call over an engine that holds a state does as the machine.
 pub meets : (e e′ : Engine) (s : State) (call : H.Call) (a : H.Answer) → Holds e s → Does e call a e′ → (a ≡ perform call s .answer) × Holds e′ (perform call s .after)
 meets e e′ s call a h (called k) =
-    let x = k .machine (h .right) (h .stands) in
+    let x = k .machine (h .right) (h .stands) (subst Unique (sym (h .state)) (h .unique)) in
     let y = k .stands (h .right) (h .stands) in
-    (sym (x .0) ∙ ap (λ (t : State). perform call t .answer) (h .state), record { right = y .0; stands = y .1; state = sym (x .1) ∙ ap (λ (t : State). perform call t .after) (h .state) })
+    (sym (x .0) ∙ ap (λ (t : State). perform call t .answer) (h .state), record { right = y .0; stands = y .1; state = sym (x .1) ∙ ap (λ (t : State). perform call t .after) (h .state); unique = unique-perform call s (h .unique) })
 meets e e′ s call a h (cleared r k p q) = clears r (e .counts) (e′ .counts) a s (lent-sizes {c = e .counts} {g = e .tables} {m = e .mem} (record { right = h .right })) k p q
 
 -- calls made one after another, each on what the last one left

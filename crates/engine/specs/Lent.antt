@@ -231,7 +231,7 @@ module _ {c : Counts} {g : Tables} {m : Mem} where
 
   pub not-lent : {call : H.Call} {x : Bool} → x ≡ lent c g m → x ≡ false → Called call c g m (H.refusal 33) c g m
   not-lent p q = record {
-    machine = λ f s. absurd (false≢true (sym q ∙ p ∙ f));
+    machine = λ f s u. absurd (false≢true (sym q ∙ p ∙ f));
     unlent = λ f. refl;
     refused = λ n f. (refl, refl, refl);
     stands = λ f s. absurd (false≢true (sym q ∙ p ∙ f));

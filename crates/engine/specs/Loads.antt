@@ -82,7 +82,7 @@ module _ {c : Counts} {g g′ : Tables} {m : Mem} {bs : List ℕ} {r : Loaded} (
       let l = loads h in
       let same : g′ ≡ g = ap tablesOf (l .leaves) in
       record {
-        machine = λ t s. called c g g′ m bs (Refused q) l e s;
+        machine = λ t s u. called c g g′ m bs (Refused q) l e s;
         unlent = λ f. absurd (false≢true (sym f ∙ e .right));
         refused = λ n f. (refl, same, refl);
         stands = λ t s. (ap (λ (x : Tables). lent c x m) same ∙ t, l .sound s);
@@ -114,7 +114,7 @@ module _ {c : Counts} {g g′ : Tables} {m : Mem} {bs : List ℕ} {r : Loaded} (
         output = y .output;
       }) in
       record {
-        machine = λ t s. called c g g′ m bs (Done i d) l e s;
+        machine = λ t s u. called c g g′ m bs (Done i d) l e s;
         unlent = λ f. absurd (false≢true (sym f ∙ e .right));
         refused = λ n f. (cc, cc, refl);
         stands = λ t s. (right, l .sound s);

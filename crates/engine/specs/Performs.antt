@@ -9,6 +9,7 @@ use Rattle.machine.specs.Program as P
 use Rattle.machine.specs.Program.{exec}
 use Rattle.machine.specs.Out.{outOf, went, ended, refused, out}
 use Rattle.machine.specs.Host as H
+use Rattle.machine.proofs.Unique.{Unique}
 use Rattle.heapops.specs.declared.Counts.{Counts}
 use Rattle.heapops.specs.Turns.{Mem}
 use Rattle.finish.specs.Parts.{Tables}
@@ -93,7 +94,7 @@ module _ {call : H.Call} {c : Counts} {g : Tables} {m : Mem} (e : Lent c g m) wh
   -- of a call that is refused
   pub called-refused : {n : ℕ} {m′ : Mem} → m′ ≡ m → Comes call (stateIn c g m) (H.refusal n) (stateIn c g m) → Called call c g m (H.refusal n) c g m′
   called-refused q p = record {
-    machine = λ f s. (p .0, p .1 ∙ sym (ap (λ (x : Mem). stateIn c g x) q));
+    machine = λ f s u. (p .0, p .1 ∙ sym (ap (λ (x : Mem). stateIn c g x) q));
     unlent = λ f. absurd (false≢true (sym f ∙ e .right));
     refused = λ n u. (refl, refl, q);
     stands = λ f s. (subst (λ (x : Mem). lent c g x ≡ true) (sym q) (e .right), s);
@@ -107,11 +108,15 @@ module _ {call : H.Call} {c : Counts} {g : Tables} {m : Mem} (e : Lent c g m) wh
   called-full q k f u v = let p = comes-full call (stateIn c g m) k q f in called-refused v (p .0 ∙ ap H.refusal (sym u), p .1)
 
   -- and of one that is accepted
-  pub called-done : {a : H.Answer} {c′ : Counts} {g′ : Tables} {m′ : Mem} → is-refusal a ≡ false → Comes call (stateIn c g m) a (stateIn c′ g′ m′)
+  pub called-sure : {a : H.Answer} {c′ : Counts} {g′ : Tables} {m′ : Mem} → is-refusal a ≡ false → (Unique (stateIn c g m) → Comes call (stateIn c g m) a (stateIn c′ g′ m′))
       → lent c′ g′ m′ ≡ true → (Stands c g → Stands c′ g′) → Called call c g m a c′ g′ m′
-  called-done h p l s = record {
-    machine = λ f k. p;
+  called-sure h p l s = record {
+    machine = λ f k u. p u;
     unlent = λ f. absurd (false≢true (sym f ∙ e .right));
     refused = λ n u. absurd (false≢true (sym h ∙ ap is-refusal u));
     stands = λ f k. (l, s k);
   }
+
+  pub called-done : {a : H.Answer} {c′ : Counts} {g′ : Tables} {m′ : Mem} → is-refusal a ≡ false → Comes call (stateIn c g m) a (stateIn c′ g′ m′)
+      → lent c′ g′ m′ ≡ true → (Stands c g → Stands c′ g′) → Called call c g m a c′ g′ m′
+  called-done h p l s = called-sure h (λ u. p) l s

@@ -2,7 +2,6 @@
 use heapops::Counts;
 use questions::listed;
 use run::Ran;
-use stacks::Depths;
 use value::Value;
 ghost use Rattle.heapops.specs.Turns.{mem};
 ghost use Rattle.finish.specs.Parts.{tables};
@@ -70,20 +69,7 @@ pub fn clear(
         output.len(),
     ) {
         let z = heap::clear(heap);
-        return Changed::Done(Counts {
-            depths: Depths {
-                operands: 0,
-                slots: 0,
-                frames: 0,
-                handlers: 0,
-                ip: 0,
-            },
-            sizes: z,
-            code: 0,
-            images: 0,
-            text: 0,
-            output: 0,
-        });
+        return Changed::Done(Counts::fresh(z));
     }
     Changed::Refused(33)
 }

@@ -13,6 +13,7 @@ use Rattle.stacks.specs.declared.Depths.{Depths}
 use Rattle.stacks.specs.declared.Made.{Made}
 use Rattle.stacks.specs.declared.Made.the-variants.{Went as Made·Went, Failed as Made·Failed, Refused as Made·Refused}
 use Rattle.heap.specs.View.{onHeap}
+use Rattle.heap.specs.declared.Sizes.{Sizes}
 use Rattle.objects.specs.declared.Placed.{Placed}
 use Rattle.objects.specs.declared.Placed.the-variants.{Went as Placed·Went, Refused as Placed·Refused}
 use Rattle.outcome.specs.Meets.{endOf}
@@ -41,6 +42,10 @@ stateOf c m s = onStacks (c .depths) (m .stacks) (below c m s)
 
 abbrev pub withDepths : Depths → Counts → Counts
 withDepths d c = record { depths = d; sizes = c .sizes; code = c .code; images = c .images; text = c .text; output = c .output }
+
+-- of the fresh engine, but for the heap
+abbrev pub freshCounts : Sizes → Counts
+freshCounts z = record { depths = record { operands = 0; slots = 0; frames = 0; handlers = 0; ip = 0 }; sizes = z; code = 0; images = 0; text = 0; output = 0 }
 
 abbrev pub turned : Counts → How → Turned
 turned c h = record { counts = c; how = h }

@@ -7,7 +7,7 @@ use value::JsVmError;
 use value::Space;
 ghost use mathlib.Core.Path.{_≡_};
 ghost use Rattle.outcome.specs.declared.End.the-variants.{Failed};
-ghost use Rattle.heapops.specs.Turns.{withDepths, turned, settledIn};
+ghost use Rattle.heapops.specs.Turns.{freshCounts, withDepths, turned, settledIn};
 ghost use Rattle.heapops.specs.declared.How.the-variants.{Went, Ended, Refused};
 
 pub mod create;
@@ -24,6 +24,28 @@ pub struct Counts {
     pub images: usize,
     pub text: usize,
     pub output: usize,
+}
+
+impl Counts {
+    // The fresh engine's, with what clear leaves of the heap: nothing else is in use.
+    pub fn fresh(sizes: Sizes) -> Counts
+        ensures { λ r. ⌜ r ≡ freshCounts sizes ⌝ }
+    {
+        Counts {
+            depths: Depths {
+                operands: 0,
+                slots: 0,
+                frames: 0,
+                handlers: 0,
+                ip: 0,
+            },
+            sizes,
+            code: 0,
+            images: 0,
+            text: 0,
+            output: 0,
+        }
+    }
 }
 
 // How an instruction came out: it went on, it ended the run, or a store refused.

@@ -8,6 +8,7 @@ pub mod Programs
 pub mod Throw
 pub mod Steps
 pub mod Calls
+pub mod Acts
 pub mod Unique
 pub mod Engine
 pub mod Ecma

@@ -16,11 +16,10 @@ use Rattle.machine.specs.Convert.{worth, arrayKey, lengthKey, lengthFloo
 use Rattle.machine.specs.Value as M
 use Rattle.machine.specs.Value.{Value}
 use Rattle.machine.specs.Image.{Constant}
-use Rattle.machine.specs.Error.{JsVmError}
 use Rattle.machine.specs.State.{State, bytes, Frame, Handler, Function, Kind, ordinary, array, Property, Global, fresh, property, isPair, isNamed, any, hasProperty, running}
 use Rattle.machine.specs.Act as A
-use Rattle.machine.specs.Act.{Act, apply, error, Need, needs}
-use Rattle.machine.specs.Program.{Program, next, end, look, make, End, How, Outcome, fits, answered, asking, unlessError, exec}
+use Rattle.machine.specs.Act.{Act, apply, needs}
+use Rattle.machine.specs.Program.{Program, next, end, look, make, End, How, fits, exec}
 use Rattle.machine.specs.Instruction as I
 use Rattle.machine.specs.Run.{Ran, begun, runOut, noFrame, kindOf, body, step, settled, after, goOn, steps, stepLimit}
 use Rattle.machine.specs.Run as R
@@ -29,6 +28,7 @@ use Rattle.machine.specs.Host.{Call, perform, performed, settledCall, ac
 use Rattle.machine.specs.Tally as T
 use Rattle.machine.specs.Tally.{Tally, Pair, isKey, count, nothing}
 use Rattle.machine.specs.Demand3.{All}
+use Rattle.machine.proofs.Acts.{after-act}
 use Rattle.machine.proofs.Texts.{all-append, all-map}
 use Rattle.machine.proofs.Sound.{Sound, sound, sound-fresh, pairOf, nameOf}
 
@@ -212,25 +212,12 @@ data Lawful : Program → State → Type 0 where
   looks : {f : State → Program} {s : State} → Lawful (f s) s → Lawful (look f) s
   acts : {a : Act} {p : Program} {s : State} → Keeps a s → Lawful p (apply a s) → Lawful (make a p) s
 
-module _ (a : Act) (s : State) (u : Unique s) where
-  unique-asking : (ns : List Need) (o : Outcome) → (All (λ n. fits s n ≡ true) ns → Unique (o .state)) → Unique (asking a s ns o .state)
-  unique-asking [] o k = k tt
-  unique-asking (n ∷ ns) o k = go (fits s n) refl (λ e. unique-asking ns o (λ f. k (e, f)))
-    where
-      go : (b : Bool) → fits s n ≡ b → (fits s n ≡ true → Unique (asking a s ns o .state)) → Unique (answered b a s n (asking a s ns o) .state)
-      go true e r = r e
-      go false e r = u
-
-  unique-unless : (x : Option JsVmError) (o : Outcome) → (x ≡ none → Unique (o .state)) → Unique (unlessError x s o .state)
-  unique-unless (some e) o k = u
-  unique-unless none o k = k refl
-
 unique-exec : (p : Program) (s : State) → Lawful p s → Unique s → Unique (exec p s .state)
 unique-exec next s goes u = u
 unique-exec (end e) s ends u = u
 unique-exec (look f) s (looks l) u = unique-exec (f s) s l u
 unique-exec (make a p) s (acts k l) u =
-    unique-unless a s u (error a s) _ λ e. unique-asking a s u (needs a s) _ λ f.
+    after-act Unique a s u _ λ e f.
     unique-exec p (apply a s) l (record {
       tally = count a (u .tally);
       agrees = sound a s (u .tally) e (u .agrees);
@@ -406,9 +393,6 @@ unique-seen s u = unique-out (step s .outcome .how) (step s .outcome .state) (un
 pub went-unique : (s t : State) → out (body (kindOf s)) s ≡ went t → Unique s → Unique t
 went-unique s t e u = subst UniqueOut e (unique-seen s u)
 
-pub ended-unique : (e : End) (s t : State) → out (body (kindOf s)) s ≡ ended e t → Unique s → Unique t
-ended-unique x s t e u = subst UniqueOut e (unique-seen s u)
-
 -- t is what a step from s left before it was settled, and r the run that goes on from there.
 unique-on : (h : How) (n : ℕ) (s t : State) (r : Ran) → Unique s → Unique t → (Unique (settled s h t) → Unique (r .state)) → Unique (goOn h n (settled s h t) r .state)
 unique-on How.went n s t r u v f = f v
@@ -442,6 +426,14 @@ module _ (s : State) (u : Unique s) where
   unique-performed : (x : Option ℕ) (c : Call) → Unique (performed x c s .after)
   unique-performed (some n) c = u
   unique-performed none c = unique-settled (exec (makes c) s .how) c
+
+-- the frame that a run begins with
+begun-seen : (i : ℕ) (s : State) → Unique s → UniqueOut (out (makes (Call.run i)) s)
+unfolding out
+begun-seen i s u = unique-out (exec (makes (Call.run i)) s .how) (exec (makes (Call.run i)) s .state) (unique-exec (makes (Call.run i)) s (search lawful) u)
+
+pub unique-begun : (i : ℕ) (s t : State) → out (makes (Call.run i)) s ≡ went t → Unique s → Unique t
+unique-begun i s t e u = subst UniqueOut e (begun-seen i s u)
 
 pub unique-perform : (c : Call) (s : State) → Unique s → Unique (perform c s .after)
 unique-perform c s u = unique-performed s u (questions c s) c

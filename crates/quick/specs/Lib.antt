@@ -1,3 +1,4 @@
+pub mod Stays
 pub mod Quickly
 pub mod Numbers
 pub mod Senses

@@ -1,5 +1,5 @@
 -- What a quick instruction ensures, and how it is followed through the machine's program. Assumes nothing.
-use Prim.Native.Nat.{ℕ, _+_, _-_, _*_, _≤_, _<_}
+use Prim.Native.Nat.{ℕ, _+_, _-_, _*_, _≤_, _<_, min}
 use native.Mathlib.Omega.{arith}
 use mathlib.Core.List.{List, _∷_}
 use mathlib.Core.Path.{_≡_, refl, sym, ap, subst, _∙_}
@@ -14,8 +14,11 @@ use Rattle.machine.specs.Run as R
 use Rattle.machine.specs.Out.{Out, went, out, out-pop, out-popFrame, out-unwind}
 use Rattle.value.specs.Lists.{bytesOf, row-at, stack-length, stack-pop}
 use Rattle.value.specs.Words.{valueAt, Holds}
-use Rattle.stacks.specs.Layout.{handlersAt}
-use Rattle.stacks.specs.Laws.{withIp, withOperands, pop-state, pop-ready, push-holds, ready-ip}
+use Rattle.stacks.specs.Layout.{framesAt, handlersAt, handlerLimit}
+use Rattle.value.specs.Arena.{set3, set3-apart}
+use Rattle.stacks.specs.Laws.{withIp, withOperands, pop-state, pop-ready, push-holds, ready-ip, handler-went}
+use Rattle.stacks.specs.Cuts.{unwound, cut-all, keep-some}
+use Rattle.stacks.specs.Places.{spot-within, spot-store}
 use Rattle.stacks.specs.declared.Handler.{Handler}
 use Rattle.stacks.specs.View
 use Rattle.stacks.specs.declared.Depths.{Depths}
@@ -26,9 +29,11 @@ use Rattle.stackops.specs.Control.{after-made}
 use Rattle.outcome.specs.declared.Part.the-variants.{Went as Part·Went}
 use Rattle.outcome.specs.declared.Stepped.{Stepped}
 use Rattle.fetch.specs.declared.Running.{Running}
-use Rattle.fetch.specs.declared.Fetched.the-variants.{Got, Missing}
-use Rattle.fetch.specs.Running.{Runs, Coded, Fetches, FetchesWord, byteIn, fetchThen, reads-there, reads-past, word-got, word-none, word-half}
+use Rattle.fetch.specs.declared.Fetched.the-variants.{Got}
+use Rattle.fetch.specs.Running.{Runs, Coded, Fetches, FetchesWord, byteIn, fetchThen, reads-there, word-got, after-fetch}
 use Rattle.dispatch.specs.Dispatch.{body-go}
+use Rattle.quick.specs.declared.Here.{Here}
+use Rattle.quick.specs.Stays.{Stays, InFrame, stays-went, kept-within, within, below-frames, above-frames, frame-kept, frame-spot, frame-row, frame-row-is}
 use Rattle.quick.specs.declared.Quick.{Quick}
 use Rattle.quick.specs.declared.Quick.the-variants.{Went, Left}
 
@@ -89,26 +94,38 @@ pub quick-weaken : {H K : St.State → Type 0} {p : Program} {d : Depths} {w w�
 quick-weaken f t = carry (λ y m. weaken f m) t
 
 -- The operand of an instruction
+abbrev pub Operand : Running → ℕ → List ℕ → Depths → ℕ → Type 0
+Operand x n code d i = FetchesWord x n code d (Got i (withIp (d .ip + 2) d))
+
 module _ (x : Running) (n : ℕ) (code : List ℕ) (d : Depths) (i : Inside x n code) where
   byte-is : (k : ℕ) → k < x .shape .at + x .shape .size → getD code k 0 ≡ byteIn code n k
   byte-is k h = sym (row-at n (λ j. getD code j 0) k 0 (omega (arith, i .loaded)))
 
-  pub operand-past : x .shape .size ≤ d .ip → FetchesWord x n code d Missing
-  operand-past h = word-none x n code d (reads-past x n code d h) refl
+  pub first : (b : ℕ) → d .ip < x .shape .size → b ≡ getD code (x .shape .at + d .ip) 0 → b < 256 → Fetches x n code d (Got b (withIp (d .ip + 1) d))
+  first b l e h = reads-there x n code d b (withIp (d .ip + 1) d) l (e ∙ byte-is (x .shape .at + d .ip) (omega (arith, l))) h refl
 
-  module _ (l : d .ip < x .shape .size) (hi : ℕ) (e : hi ≡ getD code (x .shape .at + d .ip) 0) (b : hi < 256) where
-    pub first : Fetches x n code d (Got hi (withIp (d .ip + 1) d))
-    first = reads-there x n code d hi (withIp (d .ip + 1) d) l (e ∙ byte-is (x .shape .at + d .ip) (omega (arith, l))) b refl
+-- all of it is there
+pub operand-is : (x : Running) (n : ℕ) (code : List ℕ) (d : Depths) → Inside x n code → (hi lo : ℕ) → d .ip + 1 < x .shape .size → hi ≡ getD code (x .shape .at + d .ip) 0 → hi < 256
+    → lo ≡ getD code (x .shape .at + d .ip + 1) 0 → lo < 256 → Operand x n code d (hi * 256 + lo)
+operand-is x n code d i hi lo l e h f k =
+    let z : x .shape .at + d .ip + 1 ≡ x .shape .at + (d .ip + 1) = omega arith in
+    let y : d .ip + 2 ≡ d .ip + 1 + 1 = omega arith in
+    word-got x n code d (first x n code d i hi (omega arith) e h) refl
+    (reads-there x n code (withIp (d .ip + 1) d) lo (withIp (d .ip + 2) d) l (f ∙ ap (λ (k : ℕ). getD code k 0) z ∙ byte-is x n code (withIp (d .ip + 1) d) i (x .shape .at + (d .ip + 1)) (omega arith)) k
+    (ap (λ (k : ℕ). withIp k d) y)) refl
 
-    pub operand-half : x .shape .size - d .ip < 2 → FetchesWord x n code d Missing
-    operand-half h = word-half x n code d first refl (reads-past x n code (withIp (d .ip + 1) d) (omega (arith, h))) refl
+-- two bytes of code
+pub record Word (code : List ℕ) (at r : ℕ) : Type 0 where
+  pub worth : r ≡ getD code at 0 * 256 + getD code (at + 1) 0
+  pub high : getD code at 0 < 256
+  pub low : getD code (at + 1) 0 < 256
 
-    pub operand-got : (lo : ℕ) (c : Depths) → 2 ≤ x .shape .size - d .ip → lo ≡ getD code (x .shape .at + d .ip + 1) 0 → lo < 256 → c ≡ withIp (d .ip + 2) d → FetchesWord x n code d (Got (hi * 256 + lo) c)
-    operand-got lo c h f b′ g =
-        let z : x .shape .at + d .ip + 1 ≡ x .shape .at + (d .ip + 1) = omega arith in
-        let y : d .ip + 2 ≡ d .ip + 1 + 1 = omega arith in
-        word-got x n code d first refl
-        (reads-there x n code (withIp (d .ip + 1) d) lo c (omega (arith, h)) (f ∙ ap (λ (k : ℕ). getD code k 0) z ∙ byte-is (x .shape .at + (d .ip + 1)) (omega (arith, h))) b′ (g ∙ ap (λ (k : ℕ). withIp k d) y)) refl
+pub operand-at : (x : Running) (n : ℕ) (code : List ℕ) (d : Depths) → Inside x n code → d .ip + 2 < x .shape .size → {r : ℕ} {e : Depths} → Word code (x .shape .at + d .ip + 1) r → e ≡ withIp (d .ip + 1) d
+    → Operand x n code e r
+operand-at x n code d i l {r} k z =
+    let y : x .shape .at + d .ip + 1 ≡ x .shape .at + (d .ip + 1) = omega arith in
+    let k′ : Word code (x .shape .at + (d .ip + 1)) r = subst (λ (a : ℕ). Word code a r) y k in
+    rw (z, k′ .worth) (operand-is x n code (withIp (d .ip + 1) d) i (getD code (x .shape .at + (d .ip + 1)) 0) (getD code (x .shape .at + (d .ip + 1) + 1) 0) (omega arith) refl (k′ .high) refl (k′ .low))
 
 -- A value that is popped, whatever it is
 abbrev pub newest : Depths → List ℕ → M.Value
@@ -126,6 +143,13 @@ start-as {H} {p} {w = w} {w′ = w′} {q = q} e t = subst (λ (y : Depths). Qui
 
 pub went-as : {H : St.State → Type 0} {p : Program} {d e e′ : Depths} {w w′ : List ℕ} → e ≡ e′ → Quickly H p d w (Went e′) w′ → Quickly H p d w (Went e) w′
 went-as {H} {p} {d} {w = w} {w′ = w′} e t = subst (λ (y : Depths). Quickly H p d w (Went y) w′) (sym e) t
+
+-- v stands on top now
+pub pushes : {d e : Depths} {w w′ : List ℕ} {v : M.Value} → View.Ready d w → d .operands < operandLimit → Holds w w′ (3 * d .operands) v → length w′ ≡ length w → e ≡ withOperands (d .operands + 1) d
+    → Quickly Any (I.pushed v) d w (Went e) w′ × Stays d w (Went e) w′
+pushes {d} {e} {w} {w′} {v} good l h k z =
+    let m = push-holds d w good v w′ l h k in
+    (went-as z (goes (settles m refl) (m .ready)), stays-went (kept-within z (below-frames (h .apart) (omega (arith, l)))))
 
 pub ip-ready : {c e : Depths} {p : ℕ} {w : List ℕ} → c ≡ withIp p e → View.Ready e w → View.Ready c w
 ip-ready {p = p} {w = w} e r = subst (λ (y : Depths). View.Ready y w) (sym e) (ready-ip p r)
@@ -168,13 +192,65 @@ module _ {d : Depths} {w : List ℕ} (good : View.Ready d w) (h : d .operands �
         goes (after-any good h (λ v. look λ s. I.throw v (s .handlers)) (after-look (λ s q. ap (I.throw (newest d w)) handlers-are)
         (after-gives out-unwind un′ (after-made m g refl (jumps e refl))))) (ip-ready e (rw g at (m .ready)))
 
+-- A throw that is caught in the frame that throws: no frame is taken off
+module _ {x : Running} {y : Here} {d : Depths} {w : List ℕ} (good : View.Ready d w) (fr : InFrame x y d w) where
+  module _ (k : Handler) (c : d .operands ≡ 0 → ⊥) (z : d .handlers ≡ 0 → ⊥) (i : View.handlerOf k ≡ View.handlerAt w (handlersAt + 3 * (d .handlers - 1))) (same : k .frames ≡ d .frames) {m : ℕ}
+      (e : m ≡ min (d .operands - 1) (k .operands)) where
+    abbrev popped : Depths
+    popped = withOperands (d .operands - 1) d
+
+    popped-ready : View.Ready popped w
+    popped-ready = pop-ready d w good
+
+    abbrev cut : Depths
+    cut = record { operands = m; slots = d .slots; frames = d .frames; handlers = d .handlers - 1; ip = d .ip }
+
+    cut-ready : View.Ready cut w
+    cut-ready = record { operands = omega (arith, e, good .operands); slots = good .slots; frames = good .frames; handlers = omega (arith, good .handlers); size = good .size }
+
+    unwinds : View.Unwinds popped w cut
+    unwinds = unwound popped w popped-ready k m cut z i e
+        (cut-all cut w cut-ready (k .frames) cut (omega (arith, same))
+        (keep-some cut w cut-ready (d .frames) (d .ip) (d .slots) (frame-row fr good) (good .frames) (fr .runs .stands) (frame-row-is fr good) (omega (arith, fr .full, fr .count))))
+
+    pub throws-here : {w′ : List ℕ} {f : Depths} → Holds w w′ (3 * m) (newest d w) → length w′ ≡ length w → f ≡ within (m + 1) (d .handlers - 1) (k .catch) d
+        → Quickly Any I.Throw d w (Went f) w′ × Stays d w (Went f) w′
+    throws-here {w′} h l g =
+        let p = push-holds cut w cut-ready (newest d w) w′ (let q = c in omega (arith, e, good .operands, q)) h l in
+        (throws good c k refl z i unwinds p refl g, stays-went (kept-within g (below-frames (h .apart) (omega (arith, e, good .operands)))))
+
+  -- a slot that the frame has
+  pub stores-local : {n : ℕ} {code : List ℕ} {i : ℕ} {w′ : List ℕ} {e f : Depths} → Operand x n code d i → (d .operands ≡ 0 → ⊥) → i < y .count → Holds w w′ (y .slots + 3 * i) (newest d w) → length w′ ≡ length w
+      → e ≡ withIp (d .ip + 2) d → f ≡ withOperands (d .operands - 1) e → Quickly (Coded x n code) I.StoreLocal d w (Went f) w′ × Stays d w (Went f) w′
+  stores-local {n} {code} {i} {w′} o c l h k a b =
+      let u : Depths = withOperands (d .operands - 1) (withIp (d .ip + 2) d) in
+      let r : View.Ready (withIp (d .ip + 2) d) w = ready-ip (d .ip + 2) good in
+      let ru : View.Ready u w = pop-ready (withIp (d .ip + 2) d) w r in
+      let z = b ∙ ap (withOperands (d .operands - 1)) a in
+      let spot = frame-spot (frame-kept fr good (kept-within {n = d .operands - 1} {h = d .handlers} {p = d .ip + 2} {e = u} {w′ = w} refl (λ j p q. refl))) ru i l in
+      let m = spot-store ru spot (newest d w) w′ h k in (
+        went-as z (carry (λ y m. after-fetch o (λ i. I.pop λ v. make (A.store i v) next) (λ s h. h) (fr .runs) refl (after-any r c (λ v. make (A.store i v) next) m)) (by-made m refl)),
+        stays-went (kept-within z (below-frames (h .apart) (let q = spot-within good (frame-spot fr good i l) in slot-below i l))),
+      )
+    where
+      slot-below : (i : ℕ) → i < y .count → y .slots + 3 * i + 3 ≤ framesAt
+      slot-below i l = omega (arith, l, fr .slots, fr .full, good .slots)
+
+  pub enters-try : {n : ℕ} {code : List ℕ} {i : ℕ} {w′ : List ℕ} {f : Depths} → Operand x n code d i → d .handlers < handlerLimit → w′ ≡ set3 w (handlersAt + 3 * d .handlers) i (d .operands) (d .frames)
+      → f ≡ within (d .operands) (d .handlers + 1) (d .ip + 2) d → Quickly (Coded x n code) I.EnterTry d w (Went f) w′ × Stays d w (Went f) w′
+  enters-try {n} {code} {i} {w′} o l e g =
+      let m = handler-went (withIp (d .ip + 2) d) w (ready-ip (d .ip + 2) good) i w′ (fr .runs .stands) l e in (
+        went-as g (carry (λ y m. after-fetch o (λ p. make (A.pushHandler p) next) (λ s h. h) (fr .runs) refl m) (by-made m refl)),
+        stays-went (kept-within g (rw e (above-frames (set3-apart w (handlersAt + 3 * d .handlers) i (d .operands) (d .frames)) (omega arith)))),
+      )
+
 -- A step: the opcode is fetched, and its instruction goes or is left
 module _ {H : St.State → Type 0} (x : Running) (n : ℕ) (code : List ℕ) (i : Inside x n code) (c : (s : St.State) → H s → Coded x n code s) {d : Depths} {w : List ℕ} (r : Runs x d w) (l : d .ip < x .shape .size) where
   begun : {b : ℕ} {e : Depths} → b ≡ getD code (x .shape .at + d .ip) 0 → b < 256 → e ≡ withIp (d .ip + 1) d → (s : St.State) → H s
       → out (R.body (R.kindOf (View.onStacks d w s))) (View.onStacks d w s) ≡ out (I.instruction b) (View.onStacks e w s)
   begun {b} {e} f g k s h =
       ap (λ (p : Program). out p (View.onStacks d w s)) (body-go r s (c s h) l)
-      ∙ first x n code d i l b f g .goes w r s (c s h) I.instruction
+      ∙ first x n code d i b l f g .goes w r s (c s h) I.instruction
       ∙ ap (λ (y : Depths). out (I.instruction b) (View.onStacks y w s)) (sym k)
 
   step-told : {b : ℕ} {e : Depths} (w′ : List ℕ) (q : Quick) → b ≡ getD code (x .shape .at + d .ip) 0 → b < 256 → e ≡ withIp (d .ip + 1) d → Told H (I.instruction b) e w q w′ → StepTold H d w q w′

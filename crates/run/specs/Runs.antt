@@ -5,7 +5,6 @@ use mathlib.Core.List.{List, []}
 use mathlib.Core.Path.{_≡_, refl, sym, ap, subst, _∙_}
 use lib.ListN.{length, getD}
 use Rattle.machine.specs.Fields as Fi
-use Rattle.machine.specs.Image as Im
 use Rattle.machine.specs.State as St
 use Rattle.machine.specs.State.{limit, codeStore, imageStore}
 use Rattle.machine.specs.Error.{executionLimitExceeded}
@@ -14,6 +13,7 @@ use Rattle.machine.specs.Program.{Program}
 use Rattle.machine.specs.Run as R
 use Rattle.machine.specs.Out.{Out, outOf, went, ended, refused, out}
 use Rattle.machine.proofs.Bounded.{Bounded}
+use Rattle.machine.proofs.Unique.{Unique, went-unique}
 use Rattle.value.specs.Errors.{errorOf, spaceOf}
 use Rattle.value.specs.Lists.{bytesOf, row-length, stack-length}
 use Rattle.value.specs.Words.{valueOf}
@@ -28,28 +28,30 @@ use Rattle.stacks.specs.declared.Depths.{Depths}
 use Rattle.heap.specs.Layout.{heapWords}
 use Rattle.heap.specs.View.{Sized}
 use Rattle.image.specs.View.{imagesOf}
-use Rattle.image.specs.Load.{templateFrom}
 use Rattle.outcome.specs.Meets.{endOf}
-use Rattle.outcome.specs.Meets as Part
 use Rattle.outcome.specs.declared.End.{End}
 use Rattle.outcome.specs.declared.End.the-variants.{Finished as End·Finished, Failed as End·Failed}
 use Rattle.outcome.specs.declared.Part.{Part}
 use Rattle.outcome.specs.declared.Part.the-variants.{Went as Part·Went, Ended as Part·Ended, Refused as Part·Refused, Register, Join, Print, More}
 use Rattle.outcome.specs.declared.Stepped.{Stepped}
 use Rattle.fetch.specs.declared.Running.{Running}
-use Rattle.fetch.specs.Running.{Runs, Known, Current, Coded, Pooled}
-use Rattle.readops.specs.Holds.{Constants}
+use Rattle.fetch.specs.Running.{Known}
 use Rattle.dispatch.specs.Dispatch.{Held, Steps, KeptBy}
 use Rattle.heapops.specs.declared.Counts.{Counts}
 use Rattle.heapops.specs.declared.How.{How}
 use Rattle.heapops.specs.declared.How.the-variants.{Went, Ended, Refused}
 use Rattle.heapops.specs.declared.Turned.{Turned}
-use Rattle.heapops.specs.Turns.{Mem, mem, below, stateOf, withDepths, Tells, KeptOf}
-use Rattle.finish.specs.Parts.{Tables, Ground, Finishes, withStacks, partOut, told, LeftBy, LeftReady}
+use Rattle.heapops.specs.Turns.{Mem, mem, below, stateOf, withDepths, turned, Tells, KeptOf}
+use Rattle.finish.specs.Parts.{Tables, Ground, Finishes, withStacks, partOut, told, LeftBy}
+use Rattle.finish.specs.Laws.{looks-named, looks-below}
+use Rattle.reach.specs.Leaps.{leaptTo}
 use Rattle.run.specs.Bounds.{went-bounded, ended-bounded}
 use Rattle.run.specs.declared.Ending.{Ending}
 use Rattle.run.specs.declared.Ending.the-variants.{Finished, Failed, Full}
 use Rattle.run.specs.declared.Ran.{Ran}
+
+abbrev pub ranTo : Ending → ℕ → Counts → Ran
+ranTo e n c = record { end = e; steps = n; counts = c }
 
 abbrev pub resultOf : Ending → R.Result
 resultOf (Finished v) = R.ended (P.finished (valueOf v))
@@ -146,22 +148,37 @@ module _ {c : Counts} {g : Tables} {m : Mem} {s : St.State} (f : Whole c g m s) 
   pub whole-use : InUse (g .code) (c .code) (m .text) (c .text)
   whole-use = record { code = whole-code; text = omega (arith, whole-text .0, whole-text .1) }
 
--- what the stacks' step is told of the rest of the state
+-- the ground that a step stands on
 module _ {c : Counts} {g : Tables} {m : Mem} {s : St.State} {x : Running} (f : Whole c g m s) (k : Known (g .rows) (g .starts) (c .images) x) where
-  template-is : St.templateOf s (x .image) (x .template) ≡ templateFrom (g .code) (g .places) (x .shape)
-  template-is = ap (λ (y : List (List Im.Template)). getD (getD y (x .image) []) (x .template) St.noTemplate) (f .images) ∙ sym (k .shape (g .code) (g .places))
-
-  pub whole-held : Held x (c .code) (g .code) (g .places) (c .text) (m .text) (below c m s)
-  whole-held = record {
-    constants = record {
-      coded = record { code = f .code; at = ap (λ (t : Im.Template). t .at) template-is; size = ap (λ (t : Im.Template). t .size) template-is };
-      pooled = record { constants = ap (λ (t : Im.Template). t .constants) template-is };
-    };
-    text = refl;
-  }
-
   pub whole-ground : Ground x c g s
   whole-ground = record { code = f .code; images = f .images; known = k }
+
+-- other stacks, and a heap and a text of the same size
+pub whole-moved : {c : Counts} {g : Tables} {w h t o : List ℕ} {s : St.State} → Whole c g (mem w h t o) s → {e : Depths} {k : ℕ} {w′ h′ t′ : List ℕ} → Stacks.Ready e w′ → Sized (c .sizes) h′ → k ≤ textLimit → length t′ ≡ textLimit
+    → Whole (leaptTo e k c) g (mem w′ h′ t′ o) s
+whole-moved f r z l n = let b = f .bounded in record {
+  bounded = record {
+    code = b .code;
+    images = b .images;
+    operands = rw stack-length (r .operands);
+    slots = rw row-length (r .slots);
+    frames = rw (top-length, stack-length) (r .frames);
+    handlers = rw stack-length (r .handlers);
+    functions = rw row-length (z .functions);
+    objects = rw row-length (z .objects);
+    properties = rw row-length (z .properties);
+    globals = rw row-length (z .globals);
+    text = rw row-length l;
+    output = b .output;
+  };
+  code = f .code;
+  images = f .images;
+  codes = f .codes;
+  stacks = r .size;
+  heap = z .size;
+  text = n;
+  output = f .output;
+}
 
 -- what a step on the stacks leaves ready
 pub left-by : (x : Running) (h : Part) (d : Depths) (w w′ : List ℕ) → KeptBy x h d w w′ → LeftBy x h d w′
@@ -173,97 +190,106 @@ left-by x (Join a b) d w w′ k = subst (λ (u : List ℕ). Stacks.Ready d u) (s
 left-by x (Print n) d w w′ k = subst (λ (u : List ℕ). Stacks.Ready d u × (d .operands + 1 + n ≤ St.operandLimit)) (sym (k .0)) (k .1, k .2)
 left-by x (More b) d w w′ k = subst (λ (u : List ℕ). LeftBy x (More b) d u) (sym (k .0)) (record { ready = k .1; runs = k .2; none = k .3; small = k .4 })
 
--- THE LAW OF THE LOOP: after k steps, what is left gives what the whole gives
-pub record Underway (all : Told) (k : ℕ) (c : Counts) (g : Tables) (m : Mem) (s : St.State) : Type 0 where
-  pub left : runOf (100000 - k) k (stateOf c m s) ≡ all
-  pub whole : Whole c g m s
+-- THE CONTRACT OF A STEP over all stores: it comes to what the answer says. A refusal leaves the state.
+pub record Takes (x : Running) (c : Counts) (g : Tables) (m : Mem) (t : Turned) (m′ : Mem) : Type 0 where
+  pub goes : (s : St.State) → Ground x c g s → Tells (t .how) (t .counts) m′ s (out (programOf (stateOf c m s)) (stateOf c m s))
+  pub kept : KeptOf (t .how) c m m′
+  pub steady : (t .counts .code ≡ c .code) × (t .counts .images ≡ c .images)
 
-pub stops : {all : Told} {k : ℕ} {c : Counts} {g : Tables} {m : Mem} {s : St.State} → Underway all k c g m s → k ≡ 100000 → tell k (resultOf (Failed ExecutionLimitExceeded)) (stateOf c m s) ≡ all
-unfolding runOf
-stops {k = k} u e = let z : 100000 - k ≡ 0 = omega arith in rw z at (u .left)
-
-module _ {all : Told} {k : ℕ} {c : Counts} {g : Tables} {m : Mem} {s : St.State} {x : Running} {r : Stepped} {w′ : List ℕ}
-    (u : Underway all k c g m s) (l : k < 100000) (n : Known (g .rows) (g .starts) (c .images) x)
-    (st : Steps (Held x (c .code) (g .code) (g .places) (c .text) (m .text)) x (c .depths) (m .stacks) r w′) where
-  more : thenDo (out (programOf (stateOf c m s)) (stateOf c m s)) (k + 1) (stateOf c m s) (λ t. runOf (100000 - (k + 1)) (k + 1) t) ≡ all
-  unfolding runOf
-  more = let e : 100000 - k ≡ suc (100000 - (k + 1)) = omega arith in rw e at (u .left)
-
-  step-out : out (programOf (stateOf c m s)) (stateOf c m s) ≡ partOut (r .how) (r .depths) w′ (below c m s)
-  step-out = told (r .how) (r .depths) w′ (below c m s) _ (st .goes (below c m s) (whole-held (u .whole) n))
-
+module _ (c : Counts) (g : Tables) (m : Mem) {x : Running} {r : Stepped} {w′ : List ℕ} (st : Steps (Held x (c .code) (g .code) (g .places) (c .text) (m .text)) x (c .depths) (m .stacks) r w′) where
   pub left-ready : LeftBy x (r .how) (r .depths) w′
   left-ready = left-by x (r .how) (r .depths) (m .stacks) w′ (st .kept)
 
-  whole-if : (e : Counts) (m′ : Mem) → Bounded (stateOf e m′ s) → e .code ≡ c .code → e .images ≡ c .images
-      → length (m′ .stacks) ≡ length (m .stacks) → length (m′ .heap) ≡ length (m .heap) → length (m′ .text) ≡ length (m .text) → length (m′ .output) ≡ length (m .output) → Whole e g m′ s
-  whole-if e m′ o a b p q t v = let f = u .whole in record {
-    bounded = o;
-    code = f .code ∙ ap (bytesOf (g .code)) (sym a);
-    images = f .images ∙ ap (imagesOf (g .code) (g .places) (g .rows) (g .starts)) (sym b);
-    codes = f .codes;
-    stacks = p ∙ f .stacks;
-    heap = q ∙ f .heap;
-    text = t ∙ f .text;
-    output = v ∙ f .output;
-  }
-
-  whole-more : (e : Counts) (m′ : Mem) → out (programOf (stateOf c m s)) (stateOf c m s) ≡ went (stateOf e m′ s) → e .code ≡ c .code → e .images ≡ c .images
-      → length (m′ .stacks) ≡ length (m .stacks) → length (m′ .heap) ≡ length (m .heap) → length (m′ .text) ≡ length (m .text) → length (m′ .output) ≡ length (m .output) → Whole e g m′ s
-  whole-more e m′ o a b p q t v = whole-if e m′ (went-bounded (stateOf e m′ s) (programOf (stateOf c m s)) (stateOf c m s) o (u .whole .bounded)) a b p q t v
-
-  goes : (e : Counts) (m′ : Mem) → out (programOf (stateOf c m s)) (stateOf c m s) ≡ went (stateOf e m′ s) → runOf (100000 - (k + 1)) (k + 1) (stateOf e m′ s) ≡ all
-  goes e m′ o = ap (λ (y : Out). thenDo y (k + 1) (stateOf c m s) (λ t. runOf (100000 - (k + 1)) (k + 1) t)) (sym o) ∙ more
+  step-out : (s : St.State) → Ground x c g s → out (programOf (stateOf c m s)) (stateOf c m s) ≡ partOut (r .how) (r .depths) w′ (below c m s)
+  step-out s a = told (r .how) (r .depths) w′ (below c m s) _ (st .goes (below c m s) (record { constants = looks-named (below c m s) (looks-below m s a) .constants; text = refl }))
 
   -- on the stacks alone
-  pub stacks-on : {b : Counts} → b ≡ withDepths (r .depths) c → r .how ≡ Part·Went → length w′ ≡ length (m .stacks) → Underway all (k + 1) b g (withStacks w′ m) s
-  stacks-on {b} z e q =
-      let o : out (programOf (stateOf c m s)) (stateOf c m s) ≡ went (stateOf (withDepths (r .depths) c) (withStacks w′ m) s)
-      = step-out ∙ ap (λ (h : Part). partOut h (r .depths) w′ (below c m s)) e in
-      subst (λ (y : Counts). Underway all (k + 1) y g (withStacks w′ m) s) (sym z)
-      (record { left = goes (withDepths (r .depths) c) (withStacks w′ m) o; whole = whole-more (withDepths (r .depths) c) (withStacks w′ m) o refl refl q refl refl refl })
-
-  pub known-on : {b : Counts} → b ≡ withDepths (r .depths) c → Known (g .rows) (g .starts) (b .images) x
-  known-on {b} z = subst (λ (i : ℕ). Known (g .rows) (g .starts) i x) (sym (ap (λ (y : Counts). y .images) z)) n
+  pub takes-stacks : {b : Counts} {t : Turned} → r .how ≡ Part·Went → b ≡ withDepths (r .depths) c → t ≡ turned b Went → Takes x c g m t (withStacks w′ m)
+  takes-stacks {b} {t} e z y =
+      subst (λ (u : Turned). Takes x c g m u (withStacks w′ m)) (sym (y ∙ ap (λ (u : Counts). turned u Went) z)) (record {
+        goes = λ s a. step-out s a ∙ ap (λ (h : Part). partOut h (r .depths) w′ (below c m s)) e;
+        kept = tt;
+        steady = (refl, refl);
+      })
 
   -- with the other stores
-  module _ {t : Turned} {m′ : Mem} (fin : Finishes (Ground x c g) x c (withStacks w′ m) r t m′) where
+  pub takes-all : {t : Turned} {m′ : Mem} → Finishes (Ground x c g) x c (withStacks w′ m) r t m′ → Takes x c g m t m′
+  takes-all {t} {m′} fin = record {
+    goes = λ s a. subst (Tells (t .how) (t .counts) m′ s) (sym (step-out s a)) (fin .goes s a);
+    kept = fin .kept (m .stacks) (st .kept);
+    steady = fin .steady;
+  }
+
+-- THE LAW OF THE LOOP: after k steps, what is left gives what the whole gives. It does so if no two rows of the state b at
+-- the beginning have one key, as in every state that calls leave; whether or not, the stores are whole.
+pub record Underway (b : St.State) (all : Told) (k : ℕ) (c : Counts) (g : Tables) (m : Mem) (s : St.State) : Type 0 where
+  pub left : Unique b → runOf (100000 - k) k (stateOf c m s) ≡ all
+  pub unique : Unique b → Unique (stateOf c m s)
+  pub whole : Whole c g m s
+
+module _ {b : St.State} {all : Told} {k : ℕ} {c : Counts} {g : Tables} {m : Mem} {s : St.State} (u : Underway b all k c g m s) where
+  pub stops : k ≡ 100000 → Unique b → tell k (resultOf (Failed ExecutionLimitExceeded)) (stateOf c m s) ≡ all
+  unfolding runOf
+  stops e h = let z : 100000 - k ≡ 0 = omega arith in rw z at (u .left h)
+
+  module _ {x : Running} (l : k < 100000) (n : Known (g .rows) (g .starts) (c .images) x) {t : Turned} {m′ : Mem} (tk : Takes x c g m t m′) where
+    more : Unique b → thenDo (out (programOf (stateOf c m s)) (stateOf c m s)) (k + 1) (stateOf c m s) (λ t. runOf (100000 - (k + 1)) (k + 1) t) ≡ all
+    unfolding runOf
+    more h = let e : 100000 - k ≡ suc (100000 - (k + 1)) = omega arith in rw e at (u .left h)
+
     tells : Tells (t .how) (t .counts) m′ s (out (programOf (stateOf c m s)) (stateOf c m s))
-    tells = subst (Tells (t .how) (t .counts) m′ s) (sym step-out) (fin .goes s (whole-ground (u .whole) n))
+    tells = tk .goes s (whole-ground (u .whole) n)
+
+    whole-if : (e : Counts) → Bounded (stateOf e m′ s) → e .code ≡ c .code → e .images ≡ c .images
+        → length (m′ .stacks) ≡ length (m .stacks) → length (m′ .heap) ≡ length (m .heap) → length (m′ .text) ≡ length (m .text) → length (m′ .output) ≡ length (m .output) → Whole e g m′ s
+    whole-if e o a n p q t v = let f = u .whole in record {
+      bounded = o;
+      code = f .code ∙ ap (bytesOf (g .code)) (sym a);
+      images = f .images ∙ ap (imagesOf (g .code) (g .places) (g .rows) (g .starts)) (sym n);
+      codes = f .codes;
+      stacks = p ∙ f .stacks;
+      heap = q ∙ f .heap;
+      text = t ∙ f .text;
+      output = v ∙ f .output;
+    }
 
     pub goes-on : t .how ≡ Went → length (m′ .stacks) ≡ length (m .stacks) → length (m′ .heap) ≡ length (m .heap) → length (m′ .text) ≡ length (m .text) → length (m′ .output) ≡ length (m .output)
-        → Underway all (k + 1) (t .counts) g m′ s
+        → Underway b all (k + 1) (t .counts) g m′ s
     goes-on e p q y v =
         let o : out (programOf (stateOf c m s)) (stateOf c m s) ≡ went (stateOf (t .counts) m′ s) = subst (λ (h : How). Tells h (t .counts) m′ s (out (programOf (stateOf c m s)) (stateOf c m s))) e tells in
-        record { left = goes (t .counts) m′ o; whole = whole-more (t .counts) m′ o (fin .steady .0) (fin .steady .1) p q y v }
+        record {
+          left = λ h. ap (λ (y : Out). thenDo y (k + 1) (stateOf c m s) (λ t. runOf (100000 - (k + 1)) (k + 1) t)) (sym o) ∙ more h;
+          unique = λ h. went-unique (stateOf c m s) (stateOf (t .counts) m′ s) o (u .unique h);
+          whole = whole-if (t .counts) (went-bounded (stateOf (t .counts) m′ s) (programOf (stateOf c m s)) (stateOf c m s) o (u .whole .bounded)) (tk .steady .0) (tk .steady .1) p q y v;
+        }
 
     pub known-after : Known (g .rows) (g .starts) (t .counts .images) x
-    known-after = subst (λ (i : ℕ). Known (g .rows) (g .starts) i x) (sym (fin .steady .1)) n
+    known-after = subst (λ (i : ℕ). Known (g .rows) (g .starts) i x) (sym (tk .steady .1)) n
 
-    pub finishes : {e : End} {z : Ending} → t .how ≡ Ended e → z ≡ endingOf e → tell (k + 1) (resultOf z) (stateOf (t .counts) m′ s) ≡ all
-    finishes {e} {z} h i =
+    pub finishes : {e : End} {z : Ending} → t .how ≡ Ended e → z ≡ endingOf e → Unique b → tell (k + 1) (resultOf z) (stateOf (t .counts) m′ s) ≡ all
+    finishes {e} {z} h i f =
         let o : out (programOf (stateOf c m s)) (stateOf c m s) ≡ ended (endOf e) (stateOf (t .counts) m′ s) = subst (λ (h : How). Tells h (t .counts) m′ s (out (programOf (stateOf c m s)) (stateOf c m s))) h tells in
         ap (λ (y : Ending). tell (k + 1) (resultOf y) (stateOf (t .counts) m′ s)) i ∙ ap (λ (y : R.Result). tell (k + 1) y (stateOf (t .counts) m′ s)) (ending-is e)
-        ∙ ap (λ (y : Out). thenDo y (k + 1) (stateOf c m s) (λ t. runOf (100000 - (k + 1)) (k + 1) t)) (sym o) ∙ more
-
-    pub refuses : {q : Space} → t .how ≡ Refused q → tell (k + 1) (resultOf (Full q)) (stateOf c m′ s) ≡ all
-    refuses {q} h =
-        let o : out (programOf (stateOf c m s)) (stateOf c m s) ≡ refused (spaceOf q) = subst (λ (h : How). Tells h (t .counts) m′ s (out (programOf (stateOf c m s)) (stateOf c m s))) h tells in
-        let same : KeptOf (Refused q) c (withStacks (m .stacks) (withStacks w′ m)) m′ = subst (λ (h : How). KeptOf h c (withStacks (m .stacks) (withStacks w′ m)) m′) h (fin .kept (m .stacks) (st .kept)) in
-        ap (λ (y : St.State). tell (k + 1) (R.full (spaceOf q)) y) (same (c .depths) s)
-        ∙ ap (λ (y : Out). thenDo y (k + 1) (stateOf c m s) (λ t. runOf (100000 - (k + 1)) (k + 1) t)) (sym o) ∙ more
+        ∙ ap (λ (y : Out). thenDo y (k + 1) (stateOf c m s) (λ t. runOf (100000 - (k + 1)) (k + 1) t)) (sym o) ∙ more f
 
     pub finishes-whole : {e : End} → t .how ≡ Ended e → length (m′ .stacks) ≡ length (m .stacks) → length (m′ .heap) ≡ length (m .heap) → length (m′ .text) ≡ length (m .text) → length (m′ .output) ≡ length (m .output)
         → Whole (t .counts) g m′ s
     finishes-whole {e} h p q y v =
         let o : out (programOf (stateOf c m s)) (stateOf c m s) ≡ ended (endOf e) (stateOf (t .counts) m′ s) = subst (λ (h : How). Tells h (t .counts) m′ s (out (programOf (stateOf c m s)) (stateOf c m s))) h tells in
-        whole-if (t .counts) m′ (ended-bounded (stateOf (t .counts) m′ s) (endOf e) (programOf (stateOf c m s)) (stateOf c m s) o (u .whole .bounded)) (fin .steady .0) (fin .steady .1) p q y v
+        whole-if (t .counts) (ended-bounded (stateOf (t .counts) m′ s) (endOf e) (programOf (stateOf c m s)) (stateOf c m s) o (u .whole .bounded)) (tk .steady .0) (tk .steady .1) p q y v
 
-    pub refuses-whole : {q : Space} → t .how ≡ Refused q → length (m′ .stacks) ≡ length (m .stacks) → length (m′ .heap) ≡ length (m .heap) → length (m′ .text) ≡ length (m .text) → length (m′ .output) ≡ length (m .output)
-        → Whole c g m′ s
-    refuses-whole {q} h a b y v =
-        let same : KeptOf (Refused q) c (withStacks (m .stacks) (withStacks w′ m)) m′ = subst (λ (h : How). KeptOf h c (withStacks (m .stacks) (withStacks w′ m)) m′) h (fin .kept (m .stacks) (st .kept)) in
-        whole-if c m′ (subst (λ (x : St.State). Bounded x) (sym (same (c .depths) s)) (u .whole .bounded)) refl refl a b y v
+    module _ {q : Space} (h : t .how ≡ Refused q) where
+      same : stateOf c m′ s ≡ stateOf c m s
+      same = (subst (λ (h : How). KeptOf h c m m′) h (tk .kept)) (c .depths) s
+
+      pub refuses : Unique b → tell (k + 1) (resultOf (Full q)) (stateOf c m′ s) ≡ all
+      refuses f =
+          let o : out (programOf (stateOf c m s)) (stateOf c m s) ≡ refused (spaceOf q) = subst (λ (h : How). Tells h (t .counts) m′ s (out (programOf (stateOf c m s)) (stateOf c m s))) h tells in
+          ap (λ (y : St.State). tell (k + 1) (R.full (spaceOf q)) y) same
+          ∙ ap (λ (y : Out). thenDo y (k + 1) (stateOf c m s) (λ t. runOf (100000 - (k + 1)) (k + 1) t)) (sym o) ∙ more f
+
+      pub refuses-whole : length (m′ .stacks) ≡ length (m .stacks) → length (m′ .heap) ≡ length (m .heap) → length (m′ .text) ≡ length (m .text) → length (m′ .output) ≡ length (m .output) → Whole c g m′ s
+      refuses-whole a n y v = whole-if c (subst (λ (x : St.State). Bounded x) (sym same) (u .whole .bounded)) refl refl a n y v
 
 -- the state that the stores hold, with nothing else
 abbrev pub groundOf : Counts → Tables → St.State
@@ -274,6 +300,9 @@ stateIn c g m = stateOf c m (groundOf c g)
 
 abbrev pub ranOf : Ran → Counts → Tables → Mem → Told
 ranOf r c g m = tell (r .steps) (resultOf (r .end)) (stateOf (r .counts) m (groundOf c g))
+
+pub begins : {c : Counts} {g : Tables} {m : Mem} → Whole c g m (groundOf c g) → Underway (stateIn c g m) (runOf 100000 0 (stateIn c g m)) 0 c g m (groundOf c g)
+begins w = record { left = λ z. refl; unique = λ z. z; whole = w }
 
 -- what a run leaves: the stores whole, and the code and the images as many as before
 pub record Leaves (c e : Counts) (g : Tables) (m : Mem) : Type 0 where

@@ -3,24 +3,34 @@ use crate::MAX_STEPS;
 use fetch::Running;
 use heapops::Counts;
 use heapops::with_depths;
+use quick::Here;
 use quick::Quick;
+use quick::Standing;
+use reach::Reached;
+use reach::leaps;
+use reach::leaps::Leap;
 use stacks::Depths;
+use stacks::FRAMES_AT;
 ghost use mathlib.Core.Path.{_≡_};
 ghost use mathlib.Core.Bool.{true};
 ghost use mathlib.Core.List.{List};
 ghost use Prim.Native.Nat.{ℕ, _+_, _≤_, _<_};
 ghost use lib.ListN.{length};
 ghost use Rattle.stacks.specs.View.{Ready};
-ghost use Rattle.fetch.specs.Running.{Known};
-ghost use Rattle.readops.specs.Holds.{Constants};
+ghost use Rattle.fetch.specs.Running.{Known, Current};
 ghost use Rattle.quick.specs.Quickly.{Inside};
+ghost use Rattle.quick.specs.Stays.{InFrame};
 ghost use Rattle.heap.specs.View.{Sized};
 ghost use Rattle.texts.specs.Keeps.{textLimit};
 ghost use Rattle.finish.specs.Parts.{tables};
-ghost use Rattle.run.specs.Speed.{Sprints, Speeds, spedTo};
+ghost use Rattle.reach.specs.Leaps.{leaptTo};
+ghost use Rattle.run.specs.Speed.{Strides, Speeds, strode, spedTo, stayOf};
+
+// For each place of the code, by its lowest bits: the row that was found there last. A hint is tried, and never trusted.
+pub const HINTS: usize = 64;
 
 // The depths that were come to, and the steps of the run so far.
-pub struct Sprinted {
+pub struct Strode {
     pub depths: Depths,
     pub steps: usize,
 }
@@ -30,6 +40,15 @@ pub struct Sped {
     pub steps: usize,
 }
 
+fn strode_to(d: Depths, k: usize) -> Strode
+    ensures { λ r. ⌜ r ≡ strode d k ⌝ }
+{
+    Strode {
+        depths: d,
+        steps: k,
+    }
+}
+
 fn sped_to(c: Counts, k: usize) -> Sped
     ensures { λ r. ⌜ r ≡ spedTo c k ⌝ }
 {
@@ -37,6 +56,26 @@ fn sped_to(c: Counts, k: usize) -> Sped
         counts: c,
         steps: k,
     }
+}
+
+fn leapt_to(c: Counts, d: Depths, m: usize) -> Counts
+    ensures { λ r. ⌜ r ≡ leaptTo d m c ⌝ }
+{
+    let mut e = c;
+    e.depths = d;
+    e.text = m;
+    e
+}
+
+// The depths f, of which it is known that frames and slots are those of d: so the loop need not carry them.
+fn stay(d: Depths, f: Depths) -> Depths
+    ensures { λ r. ⌜ r ≡ stayOf d f ⌝ }
+{
+    let mut e = d;
+    e.operands = f.operands;
+    e.handlers = f.handlers;
+    e.ip = f.ip;
+    e
 }
 
 // Is all of a template's code among the n bytes that are loaded?
@@ -49,40 +88,88 @@ fn loaded(x: Running, n: usize) -> bool
     x.shape.size <= n - x.shape.at
 }
 
-// Quick steps on the stacks, of one template; two steps of the run are left to make.
-fn sprint(
+// Quick steps in one frame; two steps of the run are left to make.
+fn stride(
     x: Running,
-    d: Depths,
+    y: Here,
+    c: Counts,
     steps: usize,
     code: &[u8],
-    n: usize,
     places: &[u16],
     stacks: &mut [u64],
-) -> Sprinted
-    requires { ⌜ Ready d (now stacks) ⌝ }
-    requires { ⌜ Inside x n (now code) ⌝ }
+    heap: &mut [u64],
+    text: &[u8],
+    hints: &mut [usize; HINTS],
+) -> Strode
+    requires { ⌜ Ready (c .depths) (now stacks) ⌝ }
+    requires { ⌜ InFrame x y (c .depths) (now stacks) ⌝ }
+    requires { ⌜ Inside x (c .code) (now code) ⌝ }
+    requires { ⌜ Sized (c .sizes) (now heap) ⌝ }
+    requires { ⌜ (c .text ≤ textLimit) × (length (now text) ≡ textLimit) ⌝ }
     requires { ⌜ steps < 99999 ⌝ }
-    ensures { λ r. ⌜ Sprints (Constants x n (now (code .entry)) (now (places .entry))) d (now (stacks .entry)) steps r (now (stacks .exit)) ⌝ }
+    ensures { λ r. ⌜ Strides x y c (now (code .entry)) (now (places .entry)) (now (stacks .entry)) (now (heap .entry)) (now (text .entry)) steps r (now (stacks .exit)) (now (heap .exit)) ⌝ }
 {
-    let mut e = d;
+    let mut e = c.depths;
     let mut k = steps;
     while k < MAX_STEPS - 2 {
-        let Quick::Went(f) = quick::step(x, e, code, n, places, stacks) else {
-            return Sprinted {
-                depths: e,
-                steps: k,
-            };
-        };
-        e = f;
-        k += 1;
+        match quick::step(x, y, e, code, c.code, places, stacks) {
+            Quick::Went(f) => {
+                e = stay(e, f);
+                k += 1;
+            }
+            Quick::Left => {
+                let at = e.ip % HINTS;
+                let guess = hints[at];
+                let b = with_depths(c, e);
+                let Reached::Went(f, row) = reach::step(
+                    x,
+                    y,
+                    b,
+                    guess,
+                    code,
+                    places,
+                    stacks,
+                    heap,
+                    text,
+                ) else {
+                    return strode_to(e, k);
+                };
+                hints[at] = row;
+                e = stay(e, f);
+                k += 1;
+            }
+        }
     }
-    Sprinted {
-        depths: e,
-        steps: k,
-    }
+    strode_to(e, k)
 }
 
-// Quick steps, as many as come next; one step of the run is left to make.
+// The template of the newest frame: the one at hand, told by two compares, or else looked up.
+fn current(
+    x: Running,
+    d: Depths,
+    stacks: &[u64],
+    rows: &[u16],
+    starts: &[u16],
+    images: usize,
+) -> Running
+    requires { ⌜ Ready d (now stacks) ⌝ }
+    requires { ⌜ Known (now rows) (now starts) images x ⌝ }
+    ensures { λ r. ⌜ Current (now (rows .entry)) (now (starts .entry)) images d (now (stacks .entry)) r ⌝ }
+{
+    let n = d.frames;
+    if n == 0 {
+        return x;
+    }
+    let at = FRAMES_AT + 5 * (n - 1);
+    if stacks[at] == x.image {
+        if stacks[at + 1] == x.template {
+            return x;
+        }
+    }
+    fetch::current(x, d, stacks, rows, starts, images)
+}
+
+// Quick steps, as many as come next; the last steps of a run are not among them.
 pub fn speed(
     y: Running,
     c: Counts,
@@ -93,34 +180,36 @@ pub fn speed(
     starts: &[u16],
     stacks: &mut [u64],
     heap: &mut [u64],
-    text: &[u8],
+    text: &mut [u8],
+    hints: &mut [usize; HINTS],
 ) -> Sped
     requires { ⌜ Ready (c .depths) (now stacks) ⌝ }
     requires { ⌜ Known (now rows) (now starts) (c .images) y ⌝ }
     requires { ⌜ c .code ≤ length (now code) ⌝ }
     requires { ⌜ Sized (c .sizes) (now heap) ⌝ }
     requires { ⌜ (c .text ≤ textLimit) × (length (now text) ≡ textLimit) ⌝ }
-    requires { ⌜ steps < 100000 ⌝ }
-    ensures { λ r. ⌜ Speeds c (tables (now (code .entry)) (now (places .entry)) (now (rows .entry)) (now (starts .entry))) (now (stacks .entry)) (now (heap .entry)) (now (text .entry)) steps r (now (stacks .exit)) (now (heap .exit)) ⌝ }
+    requires { ⌜ steps ≤ 100000 ⌝ }
+    ensures { λ r. ⌜ Speeds c (tables (now (code .entry)) (now (places .entry)) (now (rows .entry)) (now (starts .entry))) (now (stacks .entry)) (now (heap .entry)) (now (text .entry)) steps r (now (stacks .exit)) (now (heap .exit)) (now (text .exit)) ⌝ }
 {
     let mut x = y;
     let mut d = c;
-    let mut k = steps;
-    while k < MAX_STEPS - 1 {
-        x = fetch::current(x, d.depths, stacks, rows, starts, d.images);
-        if loaded(x, d.code) {
-            let r = sprint(x, d.depths, k, code, d.code, places, stacks);
-            d = with_depths(d, r.depths);
-            k = r.steps;
-            let Quick::Went(f) = reach::step(x, d, code, places, rows, starts, stacks, heap, text)
-            else {
-                return sped_to(d, k);
-            };
-            d = with_depths(d, f);
-            k += 1;
-        } else {
-            return sped_to(d, k);
+    let mut made = steps;
+    while made < MAX_STEPS - 2 {
+        x = current(x, d.depths, stacks, rows, starts, d.images);
+        if !loaded(x, d.code) {
+            return sped_to(d, made);
         }
+        let Standing::Is(h) = quick::stand(x, d.depths, stacks) else {
+            return sped_to(d, made);
+        };
+        let r = stride(x, h, d, made, code, places, stacks, heap, text, hints);
+        d = with_depths(d, r.depths);
+        made = r.steps;
+        let Leap::Went(f, m) = leaps::step(x, d, code, rows, starts, stacks, heap, text) else {
+            return sped_to(d, made);
+        };
+        d = leapt_to(d, f, m);
+        made += 1;
     }
-    sped_to(d, k)
+    sped_to(d, made)
 }

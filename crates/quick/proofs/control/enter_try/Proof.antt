@@ -1,49 +1,79 @@
 use borrow.Author.Needs.{needs}
-use Rattle.machine.specs.Program.{next, make}
-use Rattle.machine.specs.Act as A
-use Rattle.fetch.specs.Running.{after-fetch, got-ready}
-use Rattle.quick.specs.Quickly.{carry, by-made}
+use native.Mathlib.Omega.{arith}
+use mathlib.Core.Path.{refl}
+use lib.ListN.{length-set}
+use Rattle.quick.specs.Quickly.{enters-try}
 use Rattle.quick.proofs.control.enter_try.Statement.{statement}
 use Rattle.quick.proofs.control.enter_try.Tie as tie
 use Rattle.quick.proofs.control.enter_try.Reads as reads
 use Rattle.quick.proofs.control.enter_try.Lts as lts
-use Rattle.quick.proofs.operand.Reads as operand-reads
-use Rattle.quick.proofs.settle.Reads as settle-reads
-use Rattle.stacks.proofs.push_handler.Reads as push-handler-reads
-
-operand-requires : tie.Need-operand-requires
-operand-requires c κs = search needs
-
-enum-known-p : tie.Need-enum-known-p
-enum-known-p c = search needs
-
-enum-told : tie.Need-enum-told
-enum-told c = search needs
+use Rattle.quick.proofs.control.with_handlers.Reads as with-handlers-reads
 
 returns : tie.Need-returns
 returns c = search needs
 
-push-handler-requires : tie.Need-push-handler-requires
-push-handler-requires c κs = got-ready (c .before .before .before .before .operand .ensures) (c .before .before .p .given .1) (c .before .before .before .before .before .before .before .pre .0)
+mul-k : tie.Need-mul-k
+mul-k c = search needs
 
-settle-requires : tie.Need-settle-requires
-settle-requires c κs = search needs
+add-k : tie.Need-add-k
+add-k c = search needs
+
+mul-stacks : tie.Need-mul-stacks
+mul-stacks c = search needs
+
+slice-write-stacks : tie.Need-slice-write-stacks
+slice-write-stacks c = search needs
+
+add-stacks : tie.Need-add-stacks
+add-stacks c = search needs
+
+mul-stacks-2 : tie.Need-mul-stacks-2
+mul-stacks-2 c = search needs
+
+slice-write-stacks-2 : tie.Need-slice-write-stacks-2
+slice-write-stacks-2 c = simp length-set (omega (arith, c .before .before .before .pre .0 .size))
+
+add-stacks-2 : tie.Need-add-stacks-2
+add-stacks-2 c = search needs
+
+mul-stacks-3 : tie.Need-mul-stacks-3
+mul-stacks-3 c = search needs
+
+slice-write-stacks-3 : tie.Need-slice-write-stacks-3
+slice-write-stacks-3 c = simp length-set (omega (arith, c .before .before .before .pre .0 .size))
+
+add-with-handlers : tie.Need-add-with-handlers
+add-with-handlers c = search needs
+
+add-with-handlers-2 : tie.Need-add-with-handlers-2
+add-with-handlers-2 c = search needs
+
+with-handlers-requires : tie.Need-with-handlers-requires
+with-handlers-requires c κs = search needs
 
 same-length : tie.Need-same-length
 same-length c = search needs
 
 returns-2 : tie.Need-returns-2
-returns-2 c = carry (λ y m. after-fetch (c .before .before .before .before .before .before .before .before .operand .ensures) (λ p. make (A.pushHandler p) next) (λ s h. h) (c .before .before .before .before .before .before .before .before .before .before .before .pre .1 .0) (c .before .before .before .before .before .before .p .given .1) m) (by-made (c .before .before .before .push-handler .ensures) (c .settle .ensures))
+returns-2 c = enters-try (c .before .before .before .before .before .pre .0) (c .before .before .before .before .before .pre .1 .0) (c .before .before .before .before .before .pre .1 .1) (c .before .before .if1 .left) refl (c .with-handlers .ensures)
 
 pub enter-try-spec : {M : Type 1} → statement M
 enter-try-spec =
     tie.close
     (tie.spec
-    operand-requires
-    enum-known-p
-    enum-told
     returns
-    push-handler-requires
-    settle-requires
+    mul-k
+    add-k
+    mul-stacks
+    slice-write-stacks
+    add-stacks
+    mul-stacks-2
+    slice-write-stacks-2
+    add-stacks-2
+    mul-stacks-3
+    slice-write-stacks-3
+    add-with-handlers
+    add-with-handlers-2
+    with-handlers-requires
     same-length
     returns-2)

@@ -1,28 +1,21 @@
 use borrow.Author.Needs.{needs}
 use native.Mathlib.Omega.{arith}
-use mathlib.Core.Path.{ap, sym, subst, _∙_}
-use Rattle.quick.specs.Quickly.{dropped-ready, throws}
+use mathlib.Core.Path.{refl}
+use Rattle.quick.specs.Quickly.{throws-here}
 use Rattle.quick.proofs.control.throw.Statement.{statement}
 use Rattle.quick.proofs.control.throw.Tie as tie
 use Rattle.quick.proofs.control.throw.Reads as reads
 use Rattle.quick.proofs.control.throw.Lts as lts
-use Rattle.outcome.proofs.with_ip.Reads as with-ip-reads
-use Rattle.outcome.proofs.with_operands.Reads as with-operands-reads
-use Rattle.stacks.proofs.push_copy.Reads as push-copy-reads
+use Rattle.quick.proofs.control.with_handlers.Reads as with-handlers-reads
+use Rattle.stacks.proofs.lesser.Reads as lesser-reads
 use Rattle.stacks.proofs.read_handler.Reads as read-handler-reads
-use Rattle.stacks.proofs.unwind.Reads as unwind-reads
+use Rattle.value.proofs.copy.Reads as copy-reads
 
 returns : tie.Need-returns
 returns c = search needs
 
 returns-2 : tie.Need-returns-2
 returns-2 c = search needs
-
-sub-with-operands : tie.Need-sub-with-operands
-sub-with-operands c = search needs
-
-with-operands-requires : tie.Need-with-operands-requires
-with-operands-requires c κs = search needs
 
 sub-read-handler : tie.Need-sub-read-handler
 sub-read-handler c = search needs
@@ -36,47 +29,44 @@ add-read-handler c = search needs
 read-handler-requires : tie.Need-read-handler-requires
 read-handler-requires c κs = search needs
 
-unwind-requires : tie.Need-unwind-requires
-unwind-requires c κs = (dropped-ready (c .before .before .before .with-operands .ensures) (c .before .before .before .before .before .before .before .pre), (rw (c .before .before .before .with-operands .ensures) (c .before .before .before .before .if2 .left), rw (c .before .before .before .with-operands .ensures) (c .before .read-handler .ensures)))
-
-sub-push-copy : tie.Need-sub-push-copy
-sub-push-copy c = search needs
-
-mul-push-copy : tie.Need-mul-push-copy
-mul-push-copy c = search needs
-
-push-copy-requires : tie.Need-push-copy-requires
-push-copy-requires c κs = search needs
-
-enum-known-f : tie.Need-enum-known-f
-enum-known-f c = search needs
-
-with-ip-requires : tie.Need-with-ip-requires
-with-ip-requires c κs = search needs
-
-enum-told : tie.Need-enum-told
-enum-told c = search needs
-
-enum-told-2 : tie.Need-enum-told-2
-enum-told-2 c = search needs
-
 same-length : tie.Need-same-length
 same-length c = search needs
 
 returns-3 : tie.Need-returns-3
-returns-3 c = throws (c .before .before .before .before .before .before .before .before .before .before .before .before .before .before .before .before .pre) (c .before .before .before .before .before .before .before .before .before .before .before .before .before .before .if1 .left) (c .before .before .before .before .before .before .before .before .before .before .read-handler .result) (c .before .before .before .before .before .before .before .before .before .before .before .before .with-operands .ensures) (c .before .before .before .before .before .before .before .before .before .before .before .before .before .if2 .left) (c .before .before .before .before .before .before .before .before .before .before .read-handler .ensures) (c .before .before .before .before .before .before .before .before .unwind .ensures) (c .before .before .before .before .before .before .push-copy .ensures) (c .before .before .f .given .1) (c .with-ip .ensures)
+returns-3 c = search needs
+
+sub-lesser : tie.Need-sub-lesser
+sub-lesser c = search needs
+
+lesser-requires : tie.Need-lesser-requires
+lesser-requires c κs = search needs
+
+mul-copy : tie.Need-mul-copy
+mul-copy c = search needs
+
+sub-copy : tie.Need-sub-copy
+sub-copy c = search needs
+
+mul-copy-2 : tie.Need-mul-copy-2
+mul-copy-2 c = search needs
+
+copy-requires : tie.Need-copy-requires
+copy-requires c κs = (omega (arith, c .before .before .before .before .before .before .before .before .before .pre .0 .operands, c .before .before .before .before .before .before .before .before .before .pre .0 .size), omega (arith, c .before .lesser .ensures, c .before .before .before .before .before .before .before .before .before .pre .0 .operands, c .before .before .before .before .before .before .before .before .before .pre .0 .size))
+
+add-with-handlers : tie.Need-add-with-handlers
+add-with-handlers c = search needs
+
+sub-with-handlers : tie.Need-sub-with-handlers
+sub-with-handlers c = search needs
+
+with-handlers-requires : tie.Need-with-handlers-requires
+with-handlers-requires c κs = search needs
 
 same-length-2 : tie.Need-same-length-2
 same-length-2 c = search needs
 
 returns-4 : tie.Need-returns-4
-returns-4 c = record { told = rw (c .enum-told .given .1) at (c .before .before .before .before .push-copy .ensures .ready) }
-
-same-length-3 : tie.Need-same-length-3
-same-length-3 c = search needs
-
-returns-5 : tie.Need-returns-5
-returns-5 c = record { told = rw (c .enum-told2 .given .1) at (c .before .before .before .before .push-copy .ensures .ready) }
+returns-4 c = throws-here (c .before .before .before .before .before .before .before .before .before .before .before .before .before .pre .0) (c .before .before .before .before .before .before .before .before .before .before .before .before .before .pre .1) (c .before .before .before .before .before .before .before .before .read-handler .result) (c .before .before .before .before .before .before .before .before .before .before .before .if1 .left) (c .before .before .before .before .before .before .before .before .before .before .if2 .left) (c .before .before .before .before .before .before .before .before .read-handler .ensures) (c .before .before .before .before .before .before .if3 .left) (c .before .before .before .before .before .lesser .ensures) (c .before .before .before .copy .ensures) (c .before .before .before .copy .kept .0) (c .with-handlers .ensures)
 
 pub throw-spec : {M : Type 1} → statement M
 throw-spec =
@@ -84,23 +74,20 @@ throw-spec =
     (tie.spec
     returns
     returns-2
-    sub-with-operands
-    with-operands-requires
     sub-read-handler
     mul-read-handler
     add-read-handler
     read-handler-requires
-    unwind-requires
-    sub-push-copy
-    mul-push-copy
-    push-copy-requires
-    enum-known-f
-    with-ip-requires
-    enum-told
-    enum-told-2
     same-length
     returns-3
+    sub-lesser
+    lesser-requires
+    mul-copy
+    sub-copy
+    mul-copy-2
+    copy-requires
+    add-with-handlers
+    sub-with-handlers
+    with-handlers-requires
     same-length-2
-    returns-4
-    same-length-3
-    returns-5)
+    returns-4)

@@ -1,11 +1,10 @@
 use borrow.Author.Needs.{needs}
-use Rattle.quick.specs.Quickly.{after-top, by-made}
+use Rattle.quick.specs.Quickly.{after-top}
 use Rattle.quick.proofs.moves.dup.Statement.{statement}
 use Rattle.quick.proofs.moves.dup.Tie as tie
 use Rattle.quick.proofs.moves.dup.Reads as reads
 use Rattle.quick.proofs.moves.dup.Lts as lts
-use Rattle.quick.proofs.settle.Reads as settle-reads
-use Rattle.stacks.proofs.push_copy.Reads as push-copy-reads
+use Rattle.quick.proofs.push_copy.Reads as push-copy-reads
 
 returns : tie.Need-returns
 returns c = search needs
@@ -19,23 +18,13 @@ mul-push-copy c = search needs
 push-copy-requires : tie.Need-push-copy-requires
 push-copy-requires c κs = search needs
 
-settle-requires : tie.Need-settle-requires
-settle-requires c κs = search needs
-
 same-length : tie.Need-same-length
 same-length c = search needs
 
 returns-2 : tie.Need-returns-2
-returns-2 c = after-top (c .before .before .before .before .before .before .before .pre) (c .before .before .before .before .before .if1 .left) (by-made (c .before .before .before .push-copy .ensures) (c .settle .ensures))
+returns-2 c = (after-top (c .before .before .before .before .before .before .pre) (c .before .before .before .before .if1 .left) (c .before .before .push-copy .ensures .0), c .before .before .push-copy .ensures .1)
 
 pub dup-spec : {M : Type 1} → statement M
 dup-spec =
     tie.close
-    (tie.spec
-    returns
-    sub-push-copy
-    mul-push-copy
-    push-copy-requires
-    settle-requires
-    same-length
-    returns-2)
+    (tie.spec returns sub-push-copy mul-push-copy push-copy-requires same-length returns-2)

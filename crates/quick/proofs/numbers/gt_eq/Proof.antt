@@ -1,24 +1,24 @@
 use borrow.Author.Needs.{needs}
+use native.Mathlib.Omega.{arith}
 use mathlib.Core.Path.{ap, sym}
 use Rattle.machine.specs.Value as M
 use Rattle.machine.specs.Number as N
 use Rattle.machine.specs.Convert.{toNumber}
-use Rattle.quick.specs.Numbers.{numbers-ready, after-binary}
-use Rattle.quick.specs.Quickly.{by-made}
+use Rattle.quick.specs.Numbers.{found, numbers-within, computes, boolean-of}
 use Rattle.quick.proofs.numbers.gt_eq.Statement.{statement}
 use Rattle.quick.proofs.numbers.gt_eq.Tie as tie
 use Rattle.quick.proofs.numbers.gt_eq.Reads as reads
 use Rattle.quick.proofs.numbers.gt_eq.Lts as lts
 use Rattle.number.proofs.JsNumber.less_eq.Reads as less-eq-reads
-use Rattle.quick.proofs.numbers.pop_numbers.Reads as pop-numbers-reads
-use Rattle.quick.proofs.settle.Reads as settle-reads
-use Rattle.stacks.proofs.push.Reads as push-reads
+use Rattle.quick.proofs.numbers.find_numbers.Reads as find-numbers-reads
+use Rattle.quick.proofs.numbers.number_at.Reads as number-at-reads
+use Rattle.quick.proofs.numbers.put_bool.Reads as put-bool-reads
 
-pop-numbers-requires : tie.Need-pop-numbers-requires
-pop-numbers-requires c κs = search needs
+find-numbers-requires : tie.Need-find-numbers-requires
+find-numbers-requires c κs = search needs
 
-enum-known-a : tie.Need-enum-known-a
-enum-known-a c = search needs
+enum-known-k : tie.Need-enum-known-k
+enum-known-k c = search needs
 
 enum-told : tie.Need-enum-told
 enum-told c = search needs
@@ -29,32 +29,40 @@ same-length c = search needs
 returns : tie.Need-returns
 returns c = search needs
 
+number-at-requires : tie.Need-number-at-requires
+number-at-requires c κs = omega (arith, numbers-within (c .before .before .before .before .before .before .before .pre) (found (c .before .before .before .before .find-numbers .ensures) (c .before .before .k .given .1)) .0)
+
+add-number-at : tie.Need-add-number-at
+add-number-at c = omega (arith, numbers-within (c .before .before .before .before .before .before .before .before .before .pre) (found (c .before .before .before .before .before .before .find-numbers .ensures) (c .before .before .before .before .k .given .1)) .2)
+
+number-at-requires-2 : tie.Need-number-at-requires-2
+number-at-requires-2 c κs = omega (arith, numbers-within (c .before .before .before .before .before .before .before .before .before .pre) (found (c .before .before .before .before .before .before .find-numbers .ensures) (c .before .before .before .before .k .given .1)) .0)
+
 less-eq-requires : tie.Need-less-eq-requires
 less-eq-requires c κs = search needs
 
-push-requires : tie.Need-push-requires
-push-requires c κs = numbers-ready (c .before .before .before .before .before .pop-numbers .ensures) (c .before .before .before .a .given .1)
-
-settle-requires : tie.Need-settle-requires
-settle-requires c κs = search needs
+put-bool-requires : tie.Need-put-bool-requires
+put-bool-requires c κs = (omega (arith, numbers-within (c .before .before .before .before .before .before .before .before .before .before .before .before .pre) (found (c .before .before .before .before .before .before .before .before .before .find-numbers .ensures) (c .before .before .before .before .before .before .before .k .given .1)) .0), numbers-within (c .before .before .before .before .before .before .before .before .before .before .before .before .pre) (found (c .before .before .before .before .before .before .before .before .before .find-numbers .ensures) (c .before .before .before .before .before .before .before .k .given .1)) .1)
 
 same-length-2 : tie.Need-same-length-2
 same-length-2 c = search needs
 
 returns-2 : tie.Need-returns-2
-returns-2 c = after-binary (c .before .before .before .before .before .before .before .before .before .pop-numbers .ensures) (c .before .before .before .before .before .before .before .a .given .1) (λ m a b. M.boolean (N.lessEq (toNumber m b) (toNumber m a))) (λ m. ap M.boolean (sym (c .before .before .before .before .less-eq .ensures))) (by-made (c .before .before .before .push .ensures) (c .settle .ensures))
+returns-2 c = computes (c .before .before .before .before .before .before .before .before .before .before .before .before .before .before .before .pre) (found (c .before .before .before .before .before .before .before .before .before .before .before .before .find-numbers .ensures) (c .before .before .before .before .before .before .before .before .before .before .k .given .1)) (c .before .before .before .before .before .before .before .number-at .ensures) (c .before .before .before .before .before .number-at2 .ensures) (boolean-of (c .before .before .before .before .before .before .before .before .before .before .before .before .before .before .before .pre) (found (c .before .before .before .before .before .before .before .before .before .before .before .before .find-numbers .ensures) (c .before .before .before .before .before .before .before .before .before .before .k .given .1)) (c .before .before .before .before .before .before .before .number-at .ensures) (c .before .before .before .before .before .number-at2 .ensures) (c .before .before .put-bool .ensures)) (c .before .before .put-bool .kept .1 .0) (c .before .before .put-bool .ensures .0) (λ m a b. M.boolean (N.lessEq (toNumber m b) (toNumber m a))) (λ m. ap M.boolean (sym (c .before .before .before .less-eq .ensures)))
 
 pub gt-eq-spec : {M : Type 1} → statement M
 gt-eq-spec =
     tie.close
     (tie.spec
-    pop-numbers-requires
-    enum-known-a
+    find-numbers-requires
+    enum-known-k
     enum-told
     same-length
     returns
+    number-at-requires
+    add-number-at
+    number-at-requires-2
     less-eq-requires
-    push-requires
-    settle-requires
+    put-bool-requires
     same-length-2
     returns-2)

@@ -1,41 +1,45 @@
 use borrow.Author.Needs.{needs}
 use native.Mathlib.Omega.{arith}
-use Rattle.heap.specs.Rows.{found-within}
-use Rattle.outcome.specs.Meets.{pop-ready}
-use Rattle.fetch.specs.Running.{got-ready}
-use Rattle.quick.specs.Quickly.{by-made}
-use Rattle.reach.specs.Names.{property-loads}
+use mathlib.Core.Path.{refl, ap, _∙_}
+use Prim.Native.Nat.{_-_}
+use Rattle.stacks.specs.declared.Depths.{Depths}
+use Rattle.stacks.specs.Laws.{withOperands}
+use Rattle.quick.specs.Quickly.{ip-ready, start-as, dropped-ready}
+use Rattle.quick.specs.Stays.{stays-from, kept-ip, kept-operands, kept-trans}
+use Rattle.reach.specs.Reaches.{surely}
+use Rattle.reach.specs.Names.{property-loads, object-popped}
 use Rattle.reach.proofs.loads.load_property.Statement.{statement}
 use Rattle.reach.proofs.loads.load_property.Tie as tie
 use Rattle.reach.proofs.loads.load_property.Reads as reads
 use Rattle.reach.proofs.loads.load_property.Lts as lts
-use Rattle.quick.proofs.operand.Reads as operand-reads
-use Rattle.quick.proofs.settle.Reads as settle-reads
-use Rattle.reach.proofs.names.find_property.Reads as find-property-reads
+use Rattle.outcome.proofs.with_ip.Reads as with-ip-reads
+use Rattle.outcome.proofs.with_operands.Reads as with-operands-reads
+use Rattle.quick.proofs.push_from.Reads as push-from-reads
+use Rattle.reach.proofs.by_row.Reads as by-row-reads
 use Rattle.reach.proofs.names.name_at.Reads as name-at-reads
-use Rattle.stacks.proofs.pop.Reads as pop-reads
-use Rattle.stacks.proofs.push_from.Reads as push-from-reads
+use Rattle.reach.proofs.names.property_named.Reads as property-named-reads
+use Rattle.value.proofs.read.Reads as read-reads
 
-operand-requires : tie.Need-operand-requires
-operand-requires c κs = search needs
+add-with-ip : tie.Need-add-with-ip
+add-with-ip c = omega (arith, c .before .before .before .before .before .before .before .pre .1 .1 .0 .ready .2, c .before .before .before .before .before .before .before .good .0)
 
-enum-known-i : tie.Need-enum-known-i
-enum-known-i c = search needs
-
-enum-told : tie.Need-enum-told
-enum-told c = search needs
+with-ip-requires : tie.Need-with-ip-requires
+with-ip-requires c κs = search needs
 
 returns : tie.Need-returns
 returns c = search needs
 
-pop-requires : tie.Need-pop-requires
-pop-requires c κs = got-ready (c .before .before .before .before .operand .ensures) (c .before .before .i .given .1) (c .before .before .before .before .before .before .before .before .before .before .pre .0)
+sub-read : tie.Need-sub-read
+sub-read c = search needs
 
-enum-known-v : tie.Need-enum-known-v
-enum-known-v c = search needs
+mul-read : tie.Need-mul-read
+mul-read c = omega (arith, ip-ready (c .before .before .with-ip .ensures) (c .before .before .before .before .before .before .before .before .before .before .pre .0) .operands)
 
-enum-told-2 : tie.Need-enum-told-2
-enum-told-2 c = search needs
+read-requires : tie.Need-read-requires
+read-requires c κs = omega (arith, ip-ready (c .before .before .with-ip .ensures) (c .before .before .before .before .before .before .before .before .before .before .pre .0) .operands, ip-ready (c .before .before .with-ip .ensures) (c .before .before .before .before .before .before .before .before .before .before .pre .0) .size)
+
+enum-known-id : tie.Need-enum-known-id
+enum-known-id c = search needs
 
 same-length : tie.Need-same-length
 same-length c = search needs
@@ -43,20 +47,11 @@ same-length c = search needs
 returns-2 : tie.Need-returns-2
 returns-2 c = search needs
 
-enum-known-v-2 : tie.Need-enum-known-v-2
-enum-known-v-2 c = search needs
-
 same-length-2 : tie.Need-same-length-2
 same-length-2 c = search needs
 
 returns-3 : tie.Need-returns-3
 returns-3 c = search needs
-
-same-length-3 : tie.Need-same-length-3
-same-length-3 c = search needs
-
-returns-4 : tie.Need-returns-4
-returns-4 c = search needs
 
 name-at-requires : tie.Need-name-at-requires
 name-at-requires c κs = search needs
@@ -64,8 +59,23 @@ name-at-requires c κs = search needs
 enum-known-at : tie.Need-enum-known-at
 enum-known-at c = search needs
 
-enum-told-3 : tie.Need-enum-told-3
-enum-told-3 c = search needs
+enum-told : tie.Need-enum-told
+enum-told c = search needs
+
+same-length-3 : tie.Need-same-length-3
+same-length-3 c = search needs
+
+returns-4 : tie.Need-returns-4
+returns-4 c = search needs
+
+property-named-requires : tie.Need-property-named-requires
+property-named-requires c κs = (c .before .before .before .before .before .before .before .before .before .before .before .before .before .before .before .before .before .before .before .pre .1 .1 .1 .0, (c .before .before .before .before .before .before .before .before .before .before .before .before .before .before .before .before .before .before .before .pre .1 .1 .1 .1 .1, c .before .before .before .before .before .before .before .before .before .before .before .before .before .before .before .before .before .before .before .pre .1 .1 .1 .1 .0 .properties, c .before .before .before .before .before .before .before .before .before .before .before .before .before .before .before .before .before .before .before .pre .1 .1 .1 .1 .0 .size))
+
+enum-known-j : tie.Need-enum-known-j
+enum-known-j c = search needs
+
+enum-told-2 : tie.Need-enum-told-2
+enum-told-2 c = search needs
 
 same-length-4 : tie.Need-same-length-4
 same-length-4 c = search needs
@@ -73,74 +83,64 @@ same-length-4 c = search needs
 returns-5 : tie.Need-returns-5
 returns-5 c = search needs
 
-find-property-requires : tie.Need-find-property-requires
-find-property-requires c κs = (c .before .before .before .before .before .before .before .before .before .before .before .before .before .before .before .before .before .before .before .before .before .before .pre .1 .1 .0 .stored, (c .before .before .before .before .before .before .before .before .before .before .before .before .before .before .before .before .before .before .before .before .before .before .pre .1 .1 .1 .1, c .before .before .before .before .before .before .before .before .before .before .before .before .before .before .before .before .before .before .before .before .before .before .pre .1 .1 .1 .0))
+sub-with-operands : tie.Need-sub-with-operands
+sub-with-operands c = search needs
 
-enum-known-j : tie.Need-enum-known-j
-enum-known-j c = search needs
+with-operands-requires : tie.Need-with-operands-requires
+with-operands-requires c κs = search needs
 
-enum-told-4 : tie.Need-enum-told-4
-enum-told-4 c = search needs
+mul-push-from : tie.Need-mul-push-from
+mul-push-from c = omega (arith, c .before .before .before .before .before .property-named .ensures .within (c .before .before .before .j .given .0 .0) (c .before .before .before .j .given .1), c .before .before .before .before .before .before .before .before .before .before .before .before .before .before .before .before .before .before .before .before .before .before .before .before .before .pre .1 .1 .1 .1 .0 .properties)
+
+add-push-from : tie.Need-add-push-from
+add-push-from c = omega (arith, c .before .before .before .before .before .property-named .ensures .within (c .before .before .before .j .given .0 .0) (c .before .before .before .j .given .1), c .before .before .before .before .before .before .before .before .before .before .before .before .before .before .before .before .before .before .before .before .before .before .before .before .before .pre .1 .1 .1 .1 .0 .properties)
+
+add-push-from-2 : tie.Need-add-push-from-2
+add-push-from-2 c = omega (arith, c .before .before .before .before .before .property-named .ensures .within (c .before .before .before .j .given .0 .0) (c .before .before .before .j .given .1), c .before .before .before .before .before .before .before .before .before .before .before .before .before .before .before .before .before .before .before .before .before .before .before .before .before .pre .1 .1 .1 .1 .0 .properties)
+
+push-from-requires : tie.Need-push-from-requires
+push-from-requires c κs = (dropped-ready (c .before .with-operands .ensures) (ip-ready (c .before .before .before .before .before .before .before .before .before .before .before .before .before .before .before .before .before .with-ip .ensures) (c .before .before .before .before .before .before .before .before .before .before .before .before .before .before .before .before .before .before .before .before .before .before .before .before .before .pre .0)), omega (arith, c .before .before .before .before .before .property-named .ensures .within (c .before .before .before .j .given .0 .0) (c .before .before .before .j .given .1), c .before .before .before .before .before .before .before .before .before .before .before .before .before .before .before .before .before .before .before .before .before .before .before .before .before .pre .1 .1 .1 .1 .0 .properties, c .before .before .before .before .before .before .before .before .before .before .before .before .before .before .before .before .before .before .before .before .before .before .before .before .before .pre .1 .1 .1 .1 .0 .size))
+
+by-row-requires : tie.Need-by-row-requires
+by-row-requires c κs = search needs
 
 same-length-5 : tie.Need-same-length-5
 same-length-5 c = search needs
 
 returns-6 : tie.Need-returns-6
-returns-6 c = search needs
-
-mul-push-from : tie.Need-mul-push-from
-mul-push-from c = omega (arith, found-within (c .before .before .before .before .find-property .ensures) (c .before .before .j .given .1), c .before .before .before .before .before .before .before .before .before .before .before .before .before .before .before .before .before .before .before .before .before .before .before .before .before .before .before .pre .1 .1 .1 .0 .properties)
-
-add-push-from : tie.Need-add-push-from
-add-push-from c = omega (arith, found-within (c .before .before .before .before .find-property .ensures) (c .before .before .j .given .1), c .before .before .before .before .before .before .before .before .before .before .before .before .before .before .before .before .before .before .before .before .before .before .before .before .before .before .before .pre .1 .1 .1 .0 .properties)
-
-add-push-from-2 : tie.Need-add-push-from-2
-add-push-from-2 c = omega (arith, found-within (c .before .before .before .before .find-property .ensures) (c .before .before .j .given .1), c .before .before .before .before .before .before .before .before .before .before .before .before .before .before .before .before .before .before .before .before .before .before .before .before .before .before .before .pre .1 .1 .1 .0 .properties)
-
-push-from-requires : tie.Need-push-from-requires
-push-from-requires c κs = (pop-ready (c .before .before .before .before .before .before .before .before .before .before .before .before .before .before .before .before .pop .ensures) (c .before .before .before .before .before .before .before .before .before .before .before .before .before .before .v .given .1), omega (arith, found-within (c .before .before .before .before .find-property .ensures) (c .before .before .j .given .1), c .before .before .before .before .before .before .before .before .before .before .before .before .before .before .before .before .before .before .before .before .before .before .before .before .before .before .before .pre .1 .1 .1 .0 .properties, c .before .before .before .before .before .before .before .before .before .before .before .before .before .before .before .before .before .before .before .before .before .before .before .before .before .before .before .pre .1 .1 .1 .0 .size))
-
-settle-requires : tie.Need-settle-requires
-settle-requires c κs = search needs
-
-same-length-6 : tie.Need-same-length-6
-same-length-6 c = search needs
-
-returns-7 : tie.Need-returns-7
-returns-7 c = property-loads (c .before .before .before .before .before .before .before .before .before .before .before .before .before .before .before .before .before .before .before .before .before .before .before .before .before .operand .ensures) (c .before .before .before .before .before .before .before .before .before .before .before .before .before .before .before .before .before .before .before .before .before .before .before .before .before .before .before .before .before .before .before .pre .1 .0) (c .before .before .before .before .before .before .before .before .before .before .before .before .before .before .before .before .before .before .before .before .before .before .before .i .given .1) (c .before .before .before .before .before .before .before .before .before .before .before .before .name-at .ensures) (c .before .before .before .before .before .before .before .before .before .before .at .given .1) (c .before .before .before .before .before .before .j .given .1) (c .before .before .before .before .before .before .before .before .before .before .before .before .before .before .before .before .before .before .before .before .pop .ensures) (c .before .before .before .before .before .before .before .before .before .before .before .before .before .before .before .before .before .before .v .given .1) (c .before .before .before .before .before .before .before .before .before .before .before .before .before .before .before .v2 .given .1) (c .before .before .before .before .before .before .before .before .before .before .before .before .before .if1 .left) (c .before .before .before .before .before .before .before .before .before .before .before .before .before .before .before .before .before .before .before .before .before .before .before .before .before .before .before .before .before .before .before .pre .1 .1 .0 .stored) (c .before .before .before .before .before .before .before .before .find-property .ensures) (by-made (c .before .before .before .push-from .ensures) (c .settle .ensures))
+returns-6 c = rw (c .by-row .ensures) (surely (c .before .before .before .push-from .ensures .0) (λ u. property-loads (c .before .before .before .before .before .before .before .before .before .before .before .before .before .before .before .before .before .before .before .before .before .before .before .before .before .before .before .before .before .pre .1 .1 .0) (c .before .before .before .before .before .before .before .before .before .before .before .before .before .before .before .before .before .before .before .before .before .before .before .before .before .before .before .before .before .pre .1 .0) (c .before .before .before .before .before .before .before .before .before .before .before .before .before .name-at .ensures) (c .before .before .before .before .before .before .before .before .before .before .before .at .given .1) (c .before .before .before .before .before .before .before .j .given .1) (object-popped (c .before .before .before .before .before .before .before .before .before .before .before .before .before .before .before .before .before .before .before .before .before .before .before .before .before .before .before .before .before .pre .0) (c .before .before .before .before .before .before .before .before .before .before .before .before .before .before .before .before .before .before .before .before .before .with-ip .ensures) (c .before .before .before .before .before .before .before .before .before .before .before .before .before .before .before .before .before .before .before .before .if1 .left) (c .before .before .before .before .before .before .before .before .before .before .before .before .before .before .before .before .before .before .read .ensures) (c .before .before .before .before .before .before .before .before .before .before .before .before .before .before .before .before .id .given .1)) (c .before .before .before .before .before .before .before .before .before .before .before .before .before .before .if2 .left) (c .before .before .before .before .before .before .before .before .before .before .before .before .before .before .before .before .before .before .before .before .before .before .before .before .before .before .before .before .before .pre .1 .1 .1 .0) (c .before .before .before .before .before .before .before .before .before .property-named .ensures .finds (u .pairs _ _)) (start-as (c .before .before .before .before .before .with-operands .ensures ∙ ap (λ (u : Depths). withOperands (u .operands - 1) u) (c .before .before .before .before .before .before .before .before .before .before .before .before .before .before .before .before .before .before .before .before .before .with-ip .ensures)) (c .before .before .before .push-from .ensures .0))), stays-from (kept-trans (kept-ip (c .before .before .before .before .before .before .before .before .before .before .before .before .before .before .before .before .before .before .before .before .before .with-ip .ensures)) (kept-operands (c .before .before .before .before .before .with-operands .ensures))) (c .before .before .before .push-from .ensures .1))
 
 pub load-property-spec : {M : Type 1} → statement M
 load-property-spec =
     tie.close
     (tie.spec
-    operand-requires
-    enum-known-i
-    enum-told
+    add-with-ip
+    with-ip-requires
     returns
-    pop-requires
-    enum-known-v
-    enum-told-2
+    sub-read
+    mul-read
+    read-requires
+    enum-known-id
     same-length
     returns-2
-    enum-known-v-2
     same-length-2
     returns-3
-    same-length-3
-    returns-4
     name-at-requires
     enum-known-at
-    enum-told-3
+    enum-told
+    same-length-3
+    returns-4
+    property-named-requires
+    enum-known-j
+    enum-told-2
     same-length-4
     returns-5
-    find-property-requires
-    enum-known-j
-    enum-told-4
-    same-length-5
-    returns-6
+    sub-with-operands
+    with-operands-requires
     mul-push-from
     add-push-from
     add-push-from-2
     push-from-requires
-    settle-requires
-    same-length-6
-    returns-7)
+    by-row-requires
+    same-length-5
+    returns-6)

@@ -1,39 +1,33 @@
 use borrow.Author.Needs.{needs}
-use denote.Ref.{now}
-use Rattle.value.specs.Lists.{bytesOf}
-use Rattle.objects.specs.Puts.{name-as}
+use native.Mathlib.Omega.{arith}
+use Rattle.reach.specs.Distinct.{guessed, located}
+use Rattle.reach.specs.Names.{row-name}
 use Rattle.reach.proofs.names.find_global.Statement.{statement}
 use Rattle.reach.proofs.names.find_global.Tie as tie
 use Rattle.reach.proofs.names.find_global.Reads as reads
 use Rattle.reach.proofs.names.find_global.Lts as lts
 use Rattle.heap.proofs.find_global.Reads as find-global-reads
-use Rattle.texts.proofs.locate.Reads as locate-reads
+use Rattle.reach.proofs.names.row_is.Reads as row-is-reads
 
-locate-requires : tie.Need-locate-requires
-locate-requires c κs = search needs
+mul-row-is : tie.Need-mul-row-is
+mul-row-is c = search needs
 
-sub-find-global : tie.Need-sub-find-global
-sub-find-global c = search needs
+add-row-is : tie.Need-add-row-is
+add-row-is c = search needs
 
-part-find-global-start : tie.Need-part-find-global-start
-part-find-global-start c = search needs
+row-is-requires : tie.Need-row-is-requires
+row-is-requires c κs = (c .before .before .before .before .pre .0, omega (arith, c .if1 .taken, c .before .before .before .before .pre .1, c .before .before .before .before .pre .2))
 
-part-find-global-end : tie.Need-part-find-global-end
-part-find-global-end c = search needs
+returns : tie.Need-returns
+returns c = guessed (c .before .before .if1 .taken) (row-name (c .before .before .before .before .before .before .args .guess) (c .before .row-is .ensures (c .if2 .taken)))
 
 find-global-requires : tie.Need-find-global-requires
 find-global-requires c κs = search needs
 
-returns : tie.Need-returns
-returns c = name-as (bytesOf (now (c .before .before .before .before .before .before .args .text)) (c .before .before .before .before .before .before .args .c .text)) (now (c .before .before .before .before .before .before .args .heap)) (c .before .before .before .before .before .before .args .c .sizes .globals) _ _ _ (c .before .before .locate .ensures .bytes (now (c .before .before .before .before .before .before .args .code)) (c .before .before .before .before .before .before .pre .0)) (c .find-global .ensures)
+returns-2 : tie.Need-returns-2
+returns-2 c = located (c .find-global .ensures)
 
 pub find-global-spec : {M : Type 1} → statement M
 find-global-spec =
     tie.close
-    (tie.spec
-    locate-requires
-    sub-find-global
-    part-find-global-start
-    part-find-global-end
-    find-global-requires
-    returns)
+    (tie.spec mul-row-is add-row-is row-is-requires returns find-global-requires returns-2)

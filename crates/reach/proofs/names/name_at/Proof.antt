@@ -1,13 +1,14 @@
 use borrow.Author.Needs.{needs}
+use Rattle.image.specs.Near.{near-is}
 use Rattle.reach.specs.Names.{name-is}
 use Rattle.reach.proofs.names.name_at.Statement.{statement}
 use Rattle.reach.proofs.names.name_at.Tie as tie
 use Rattle.reach.proofs.names.name_at.Reads as reads
 use Rattle.reach.proofs.names.name_at.Lts as lts
-use Rattle.image.proofs.constant_at.Reads as constant-at-reads
+use Rattle.image.proofs.near.Reads as near-reads
 
-constant-at-requires : tie.Need-constant-at-requires
-constant-at-requires c κs = search needs
+near-requires : tie.Need-near-requires
+near-requires c κs = search needs
 
 enum-known-k : tie.Need-enum-known-k
 enum-known-k c = search needs
@@ -25,16 +26,9 @@ returns-2 : tie.Need-returns-2
 returns-2 c = search needs
 
 returns-3 : tie.Need-returns-3
-returns-3 c = name-is (c .before .before .before .before .before .before .constant-at .ensures) (c .before .before .before .before .k .given .1) (c .before .k2 .given .1)
+returns-3 c = name-is (near-is (c .before .before .before .before .before .before .near .ensures) (c .before .before .before .before .k .given .1)) (c .before .before .before .before .k .given .1) (c .before .k2 .given .1)
 
 pub name-at-spec : {M : Type 1} → statement M
 name-at-spec =
     tie.close
-    (tie.spec
-    constant-at-requires
-    enum-known-k
-    enum-told
-    returns
-    enum-known-k-2
-    returns-2
-    returns-3)
+    (tie.spec near-requires enum-known-k enum-told returns enum-known-k-2 returns-2 returns-3)
