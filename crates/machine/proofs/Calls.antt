@@ -21,13 +21,15 @@ use Rattle.machine.specs.Host as H
 use Rattle.machine.specs.Host.{Call, Answer, Called, perform, performed, settledCall, refusedCall, accepted, simply, questions, makes, ask, refusalRead, history, leaves}
 use Rattle.machine.specs.Tally.{Tally, count, counted, nothing}
 use Rattle.machine.specs.Demand3 as D
-use Rattle.machine.specs.Demand3.{All, Right, RightSteps, RightCalls, Orderly, OrderlyCall, tallySteps, tallyAccepted, tallyStart, broughtBy, handleOf, handle, heldStart, heldCall, heldAccepted, unlessRefusal, TextsSteps, TextsCalls, refusedLast, refusedAtLast, RanFull, Honest, Summed, Throws, Demand3}
+use Rattle.machine.specs.Demand3.{All, Enters, Right, RightSteps, RightCalls, Orderly, OrderlyCall, tallySteps, tallyAccepted, tallyStart, broughtBy, handleOf, handle, heldStart, heldCall, heldAccepted, unlessRefusal, TextsSteps, TextsCalls, refusedLast, refusedAtLast, RanFull, Honest, Summed, storedBytes, keptCall, StoredCalls, ThrowsSteps, ThrowsCalls, Demand3}
 use Rattle.machine.proofs.Images as Im
 use Rattle.machine.proofs.Texts.{Holds, all-append, held-grows}
 use Rattle.machine.proofs.Sound.{sound-fresh}
 use Rattle.machine.proofs.Bounded.{bounded-fresh}
 use Rattle.machine.proofs.Programs.{Fine, Kept, kept, went-not}
+use Rattle.machine.proofs.Charged.{right-stored, steps-stored, stored-append}
 use Rattle.machine.proofs.Steps.{KeptRun, kept-steps, orderly, have-bytes}
+use Rattle.machine.proofs.Enter.{enters, calls-each}
 
 pub fine-fresh : Fine fresh nothing
 fine-fresh = record { agrees = sound-fresh; bounded = bounded-fresh }
@@ -223,6 +225,7 @@ handles Call.clear s q = tt
 -- What a call keeps.
 pub record KeptCall (t : Tally) (hs : List Held) (d : Called) : Type 0 where
   pub right : Right t (d .events)
+  pub stored : (ks : List Held) → t .text ≡ storedBytes ks → tallySteps (tallyStart t d) (d .steps) .text ≡ storedBytes (keptCall ks d)
   pub rightSteps : RightSteps (tallyStart t d) (d .steps)
   pub fine : Fine (d .after) (tallySteps (tallyStart t d) (d .steps))
   pub orderly : OrderlyCall d
@@ -230,7 +233,7 @@ pub record KeptCall (t : Tally) (hs : List Held) (d : Called) : Type 0 where
   pub held : All (Holds (bytes (d .after))) (heldCall hs d)
   pub honest : Honest d
   pub summed : Summed d
-  pub threw : All Throws (d .steps)
+  pub threw : ThrowsSteps (tallyStart t d) (d .steps)
 
 -- An answer that is no refusal, and not a run's.
 abbrev Plain : Answer → Type 0
@@ -262,6 +265,7 @@ module _ (s : State) (t : Tally) (hs : List Held) (f : Fine s t) (hh : All (Hold
   kept-refused : (c : Call) (es : List Event) (n : ℕ) → Right t es → ((q : Store) → (n ≡ question q) ↔ refusedLast q es) → KeptCall t hs (refusedCall c s es n)
   kept-refused c es n r h = record {
     right = r;
+    stored = λ ks e. e;
     rightSteps = tt;
     fine = f;
     orderly = (orderly s t f, tt, orderly s t f);
@@ -286,22 +290,29 @@ module _ (s : State) (t : Tally) (hs : List Held) (f : Fine s t) (hh : All (Hold
   not-refused : (o : Outcome) → Kept s t o → o .how ≡ went → (q : Store) → refusedLast q (o .events) → ⊥
   not-refused o k w q z = went-not q (sym w ∙ k .refuses q .1 z)
 
+  -- What it brought to the text store is what it added to its use.
+  started-stored : (o : Outcome) (u : Tally) → Kept s t o → counted t (o .events) ≡ u → (ks : List Held) → t .text ≡ storedBytes ks
+      → u .text ≡ storedBytes (ks ++ broughtBy (o .events))
+  started-stored o u k et ks x =
+      let h = right-stored (o .events) t (k .right) in let a = stored-append ks (broughtBy (o .events)) in let b = ap (λ (y : Tally). y .text) et in omega arith
+
   -- An accepted call that is no run and no clear.
   kept-simply : (c : Call) (o : Outcome) (a : Answer) → Kept s t o → o .how ≡ went
       → Plain a
       → counted t (o .events) ≡ tallyAccepted c t
-      → ((new : List Held) → heldAccepted c hs new ≡ hs ++ new)
+      → ((ks new : List Held) → heldAccepted c ks new ≡ ks ++ new)
       → All (Holds (bytes s)) (handleOf (bytes s) c)
       → KeptCall t hs (simply c s (o .events) a (o .state))
   kept-simply c o a k w p et eh h =
       let g : Fine (o .state) (unlessRefusal a t (tallyAccepted c t)) = rw (plain-unless a p t (tallyAccepted c t)) (rw et at (k .fine)) in
       record {
         right = k .right;
+        stored = λ ks x. rw (plain-unless a p t (tallyAccepted c t), plain-unless a p ks (heldAccepted c ks (broughtBy (o .events))), eh ks _) (started-stored o (tallyAccepted c t) k et ks x);
         rightSteps = tt;
         fine = g;
         orderly = (orderly s t f, tt, orderly (o .state) _ g);
         texts = tt;
-        held = rw (plain-unless a p hs (heldAccepted c hs (broughtBy (o .events) ++ handleOf (bytes s) c)), eh _) (all-held o (handleOf (bytes s) c) k h);
+        held = rw (plain-unless a p hs (heldAccepted c hs (broughtBy (o .events) ++ handleOf (bytes s) c)), eh hs _) (all-held o (handleOf (bytes s) c) k h);
         honest = record {
           calls = λ q. ((λ e. absurd (subst Plain e p)), (λ z. absurd (not-refused o k w q z)));
           runs = λ q. ((λ z. absurd (plain-full a p q z)), (λ z. absurd z));
@@ -319,6 +330,7 @@ module _ (s : State) (t : Tally) (hs : List Held) (f : Fine s t) (hh : All (Hold
       let r = steps stepLimit 0 (o .state) in
       record {
         right = k .right;
+        stored = λ ks x. steps-stored (r .steps) (tallyAccepted (Call.run i) t) (ks ++ broughtBy (o .events)) (l .right) (started-stored o (tallyAccepted (Call.run i) t) k et ks x);
         rightSteps = l .right;
         fine = l .fine;
         orderly = (orderly s t f, l .orderly, orderly (r .state) _ (l .fine));
@@ -334,16 +346,17 @@ module _ (s : State) (t : Tally) (hs : List Held) (f : Fine s t) (hh : All (Hold
       }
 
   kept-accepted : (c : Call) → questions c s ≡ none → Kept s t (exec (makes c) s) → exec (makes c) s .how ≡ went → KeptCall t hs (accepted c s (exec (makes c) s))
-  kept-accepted (Call.load bs) e k w = kept-simply (Call.load bs) _ _ k w tt (tallies t (Act.load bs) s w) (λ new. refl) tt
-  kept-accepted (Call.register i j) e k w = kept-simply (Call.register i j) _ _ k w tt (tallies t (Act.addFunction i j) s w) (λ new. refl) tt
+  kept-accepted (Call.load bs) e k w = kept-simply (Call.load bs) _ _ k w tt (tallies t (Act.load bs) s w) (λ ks new. refl) tt
+  kept-accepted (Call.register i j) e k w = kept-simply (Call.register i j) _ _ k w tt (tallies t (Act.addFunction i j) s w) (λ ks new. refl) tt
   kept-accepted (Call.setGlobal n g) e k w =
-      kept-simply (Call.setGlobal n g) _ _ k w tt (tallies t (Act.putGlobal n g) s w) (λ new. refl) (handles (Call.setGlobal n g) s e)
-  kept-accepted (Call.readGlobal n) e k w = kept-simply (Call.readGlobal n) _ _ k w tt refl (λ new. refl) tt
+      kept-simply (Call.setGlobal n g) _ _ k w tt (tallies t (Act.putGlobal n g) s w) (λ ks new. refl) (handles (Call.setGlobal n g) s e)
+  kept-accepted (Call.readGlobal n) e k w = kept-simply (Call.readGlobal n) _ _ k w tt refl (λ ks new. refl) tt
   kept-accepted (Call.run i) e k w = kept-run i _ k w (tallies t (Act.pushFrame i 0 []) s w)
-  kept-accepted (Call.text g n) e k w = kept-simply (Call.text g n) _ _ k w tt refl (λ new. refl) tt
-  kept-accepted (Call.drain n) e k w = kept-simply (Call.drain n) _ _ k w tt (tallies t Act.emptyOutput s w) (λ new. refl) tt
+  kept-accepted (Call.text g n) e k w = kept-simply (Call.text g n) _ _ k w tt refl (λ ks new. refl) tt
+  kept-accepted (Call.drain n) e k w = kept-simply (Call.drain n) _ _ k w tt (tallies t Act.emptyOutput s w) (λ ks new. refl) tt
   kept-accepted Call.clear e k w = record {
     right = tt;
+    stored = λ ks e. refl;
     rightSteps = tt;
     fine = fine-fresh;
     orderly = (orderly s t f, tt, orderly fresh nothing fine-fresh);
@@ -379,12 +392,13 @@ pub record KeptCalls (s : State) (t : Tally) (hs : List Held) (calls : List Call
   pub slots : All OrderlyCall (history s calls)
   pub texts : TextsCalls hs (history s calls)
   pub space : RightCalls t (history s calls)
+  pub stored : (ks : List Held) → t .text ≡ storedBytes ks → StoredCalls t ks (history s calls)
   pub refusals : All Honest (history s calls)
   pub sums : All Summed (history s calls)
-  pub throws : All (λ d. All Throws (d .steps)) (history s calls)
+  pub throws : ThrowsCalls t (history s calls)
 
 kept-calls : (calls : List Call) (s : State) (t : Tally) (hs : List Held) → Fine s t → All (Holds (bytes s)) hs → KeptCalls s t hs calls
-kept-calls [] s t hs f h = record { slots = tt; texts = tt; space = tt; refusals = tt; sums = tt; throws = tt }
+kept-calls [] s t hs f h = record { slots = tt; texts = tt; space = tt; stored = λ ks e. tt; refusals = tt; sums = tt; throws = tt }
 kept-calls (c ∷ cs) s t hs f h =
     let k = kept-call s t hs f h c in
     let d = perform c s in
@@ -393,6 +407,7 @@ kept-calls (c ∷ cs) s t hs f h =
       slots = (k .orderly, l .slots);
       texts = (k .texts, have-bytes (d .after) (heldCall hs d) (k .held), l .texts);
       space = (k .right, k .rightSteps, l .space);
+      stored = λ ks e. (k .stored ks e, l .stored (keptCall ks d) (k .stored ks e));
       refusals = (k .honest, l .refusals);
       sums = (k .summed, l .sums);
       throws = (k .threw, l .throws);
@@ -402,4 +417,4 @@ kept-calls (c ∷ cs) s t hs f h =
 pub demand3 : (calls : List Call) → Demand3 calls
 demand3 calls =
     let k = kept-calls calls fresh nothing [] fine-fresh tt in
-    record { slots = k .slots; texts = k .texts; space = k .space; refusals = k .refusals; sums = k .sums; throws = k .throws }
+    record { slots = k .slots; texts = k .texts; space = k .space; stored = k .stored [] refl; refusals = k .refusals; sums = k .sums; throws = k .throws; tries = calls-each Enters enters calls fresh }

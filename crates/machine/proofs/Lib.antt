@@ -5,7 +5,9 @@ pub mod Sound
 pub mod Bounded
 pub mod Amounts
 pub mod Programs
+pub mod Charged
 pub mod Throw
+pub mod Enter
 pub mod Steps
 pub mod Calls
 pub mod Acts

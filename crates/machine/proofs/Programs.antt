@@ -17,7 +17,7 @@ use Rattle.machine.specs.Demand3.{All, Right, refusedLast, broughtBy}
 use Rattle.machine.proofs.Texts.{Grows, grows, grows-trans, Holds, all-append, held-grows, brought}
 use Rattle.machine.proofs.Sound.{Sound, used-is, sound}
 use Rattle.machine.proofs.Bounded.{Bounded, bounded}
-use Rattle.machine.proofs.Amounts.{amounts}
+use Rattle.machine.proofs.Amounts.{amounts, charges}
 
 -- A state that agrees with the tally, and whose stores are within their limits.
 pub record Fine (s : State) (t : Tally) : Type 0 where
@@ -96,9 +96,9 @@ kept-unless : (e : Option JsVmError) (s : State) (t : Tally) (o : Outcome) → F
 kept-unless (some e) s t o f k = kept-over s t _ (ended-not (End.failed e)) f
 kept-unless none s t o f k = k refl
 
-kept-did : (a : Act) (s : State) (t : Tally) (o : Outcome) → Kept (apply a s) (count a t) o → Kept s t (noting (did a (brings a s)) o)
-kept-did a s t o k = record {
-  right = k .right;
+kept-did : (a : Act) (s : State) (t : Tally) (o : Outcome) → Sound s t → Kept (apply a s) (count a t) o → Kept s t (noting (did a (brings a s)) o)
+kept-did a s t o r k = record {
+  right = (charges a s t r, k .right);
   fine = k .fine;
   grew = grows-trans (bytes s) (bytes (apply a s)) (bytes (o .state)) (grows a s) (k .grew);
   held = all-append (Holds (bytes (o .state))) (brings a s) (broughtBy (o .events)) (held-grows (bytes (apply a s)) (bytes (o .state)) (k .grew) (brings a s) (brought a s)) (k .held);
@@ -112,5 +112,5 @@ kept (look g) s t f = kept (g s) s t f
 kept (make a p) s t f =
     kept-unless (error a s) s t _ f λ e.
     kept-asking a (needs a s) s t _ f (amounts a s t (f .agrees)) λ yes.
-    kept-did a s t (exec p (apply a s))
+    kept-did a s t (exec p (apply a s)) (f .agrees)
     (kept p (apply a s) (count a t) (record { agrees = sound a s t e (f .agrees); bounded = bounded a s e yes (f .bounded) }))

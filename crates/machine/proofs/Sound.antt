@@ -17,7 +17,7 @@ use Rattle.machine.specs.Act as A
 use Rattle.machine.specs.Act.{Act, apply, error, addText, addProperty, addProperties}
 use Rattle.machine.specs.Tally as T
 use Rattle.machine.specs.Tally.{Tally, Pair, count, useOf, nothing}
-use Rattle.machine.specs.Demand3.{All, Contiguous}
+use Rattle.machine.specs.Demand3.{All, Contiguous, savedBy}
 use Rattle.machine.proofs.Texts.{Inside, Grows, grows, grows-text, slice-new, all-append, all-map}
 use Rattle.machine.proofs.Frames as F
 use Rattle.machine.proofs.Frames.{Frames}
@@ -66,10 +66,6 @@ module _ (m m′ : Bytes) (g : Grows m m′) where
     inside = all-map (λ x. NameInside m (x .name)) (λ x. NameInside m′ (x .name)) (λ x i. name-grow (x .name) i .0) gs (k .inside);
     agree = names-same gs (k .inside) ∙ k .agree;
   }
-
--- What a handler saved, as the tally has it.
-abbrev pub savedBy : Handler → T.Saved
-savedBy h = record { operands = h .operands; frames = h .frames }
 
 -- Of the whole state
 
@@ -427,8 +423,8 @@ sound A.popFrame s t e r = with-frames s t r _ _ _ (F.popFrame (s .frames) (s .s
 sound (A.store i v) s t e r = sound-store i v (s .frames) s t refl r
 sound (A.pushHandler p) s t e r =
     with-handlers s t r _ _
-    (ap₂ (λ (o f : ℕ). record { operands = o; frames = f } ∷ map savedBy (s .handlers)) (r .operands) (F.frames-used (s .frames) (s .slots) (t .frames) (r .frames))
-    ∙ ap (λ (x : List T.Saved). record { operands = t .operands; frames = length (t .frames) } ∷ x) (r .handlers))
+    (ap₂ (λ (o f : ℕ). record { catch = p; operands = o; frames = f } ∷ map savedBy (s .handlers)) (r .operands) (F.frames-used (s .frames) (s .slots) (t .frames) (r .frames))
+    ∙ ap (λ (x : List T.Saved). record { catch = p; operands = t .operands; frames = length (t .frames) } ∷ x) (r .handlers))
     (handler-room (s .frames) e, r .saved)
 sound A.popHandler s t e r =
     with-handlers s t r (A.rest (s .handlers)) _ (map-rest (s .handlers) ∙ ap A.rest (r .handlers)) (all-rest (λ h. 1 ≤ h .frames) (s .handlers) (r .saved))

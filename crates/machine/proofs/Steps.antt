@@ -15,7 +15,7 @@ use Rattle.machine.specs.Program.{End, How, went, ended, refused, Outcom
 use Rattle.machine.specs.Instruction as I
 use Rattle.machine.specs.Run.{Kind, begun, runOut, noFrame, kindOf, body, Step, step, settled, after, Result, Ran, stopped, stepped, goOn, steps}
 use Rattle.machine.specs.Tally.{Tally, counted, unlessRefused}
-use Rattle.machine.specs.Demand3.{All, Orderly, broughtBy, broughtIn, unlessUndone, heldSteps, HasBytes, TextsSteps, tallyStep, tallySteps, RightSteps, IsFull, refusedLast, refusedAtLast, WentOn, isBegun, isRunOut, isNoFrame, total, finish, Throws}
+use Rattle.machine.specs.Demand3.{All, Orderly, broughtBy, broughtIn, unlessUndone, heldSteps, HasBytes, TextsSteps, tallyStep, tallySteps, RightSteps, IsFull, refusedLast, refusedAtLast, WentOn, isBegun, isRunOut, isNoFrame, total, finish, Throws, ThrowsSteps}
 use Rattle.machine.proofs.Texts.{Holds, all-append, all-map, held-grows}
 use Rattle.machine.proofs.Bounded.{bounded-used}
 use Rattle.machine.proofs.Programs.{Fine, Kept, kept, went-not, ended-not}
@@ -83,7 +83,7 @@ pub record KeptRun (n : ℕ) (t : Tally) (hs : List Held) (r : Ran) : Type 0 whe
   pub texts : TextsSteps hs (r .steps)
   pub held : All (Holds (bytes (r .state))) (heldSteps hs (r .steps))
   pub summed : r .made ≡ n + (total isBegun (r .steps) + total isRunOut (r .steps) + finish (r .steps))
-  pub threw : All Throws (r .steps)
+  pub threw : ThrowsSteps t (r .steps)
   pub full : (q : Store) → IsFull q (r .result) ↔ refusedAtLast q (r .steps)
   pub wentOn : WentOn (r .steps)
 
@@ -104,7 +104,7 @@ module _ (n : ℕ) (s : State) (t : Tally) (hs : List Held) (f : Fine s t) (h : 
 
 -- A step p from s, of which n have been made before.
 module _ (n : ℕ) (s : State) (t : Tally) (hs : List Held) (p : Step) (f : Fine s t) (h : All (Holds (bytes s)) hs) (k : Kept s t (p .outcome))
-    (at : Orderly (p .before)) (had : All (HasBytes (p .before)) hs) (thrown : Throws p)
+    (at : Orderly (p .before)) (had : All (HasBytes (p .before)) hs) (thrown : Throws t p)
     (ends : p .outcome .how ≡ went → isNoFrame (p .kind) ≡ 0) where
   after-step : Settled (tallyStep t p) (after s (p .outcome)) (hs ++ broughtIn p)
   after-step = settle (p .outcome .how) s t (p .outcome) hs f h k

@@ -156,7 +156,7 @@ constant-holds s bs Constant.null w = tt
 constant-holds s bs Constant.undefined w = tt
 constant-holds s bs (Constant.function t) w = tt
 
-all-flat : {X Y : Type 0} (P : X → Type 0) (Q : Y → Type 0) (f : X → List Y) → ((a : X) → P a → All Q (f a)) → (xs : List X) → All P xs → All Q (A.flatMap f xs)
+pub all-flat : {X Y : Type 0} (P : X → Type 0) (Q : Y → Type 0) (f : X → List Y) → ((a : X) → P a → All Q (f a)) → (xs : List X) → All P xs → All Q (A.flatMap f xs)
 all-flat P Q f g [] p = tt
 all-flat P Q f g (x ∷ xs) p = all-append Q (f x) (A.flatMap f xs) (g x (p .0)) (all-flat P Q f g xs (p .1))
 

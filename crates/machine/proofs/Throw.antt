@@ -2,7 +2,7 @@
 use mathlib.Core.Path.{_≡_, refl, sym, ap, ap₂, _∙_, subst}
 use mathlib.Core.Bool.{Bool, true, false, not}
 use mathlib.Core.Option.{Option, none, some}
-use mathlib.Core.List.{List, [], _∷_, _++_}
+use mathlib.Core.List.{List, [], _∷_, _++_, map}
 use Prim.Native.Nat.{ℕ, zero, suc, _+_, _-_, _≤_, _<_, min}
 use native.Mathlib.Omega.{arith}
 use lib.Dec.{leb, ltb, T, lt→ltb}
@@ -17,14 +17,14 @@ use Rattle.machine.specs.Act.{apply, error}
 use Rattle.machine.specs.Program.{Program, make, end, failed, went, did, Outcome, over, noting, unlessError, exec}
 use Rattle.machine.specs.Instruction.{fetch, fetchFrom, instruction}
 use Rattle.machine.specs.Run.{Kind, begun, runOut, noFrame, kindIn, kindOf, body, Step, step, after}
-use Rattle.machine.specs.Tally.{Tally}
-use Rattle.machine.specs.Demand3.{Throws, Caught}
+use Rattle.machine.specs.Tally.{Tally, Saved}
+use Rattle.machine.specs.Demand3.{Throws, Caught, savedBy}
 use Rattle.machine.proofs.Sound.{Sound}
 
--- The step's byte is 74, and its place is within the code.
-kind-within : (b : Bool) (n : ℕ) → (if b then begun n else runOut) ≡ begun 74 → (b ≡ true) × (n ≡ 74)
-kind-within true n e = (refl, cc)
-kind-within false n e = let z : _≡_ {A = ℕ} 0 1 = cc in absurd (omega arith)
+-- The step's byte is k, and its place is within the code.
+pub kind-within : (k : ℕ) (b : Bool) (n : ℕ) → (if b then begun n else runOut) ≡ begun k → (b ≡ true) × (n ≡ k)
+kind-within k true n e = (refl, cc)
+kind-within k false n e = let z : _≡_ {A = ℕ} 0 1 = cc in absurd (omega arith)
 
 module _ (s : State) (f : Frame) (fs : List Frame) (v : Value) (vs : List Value) (h : Handler) where
   -- after the opcode is fetched, its value popped, and the handler taken
@@ -89,33 +89,42 @@ module _ (s : State) (f : Frame) (fs : List Frame) (v : Value) (vs : List Value)
   outcome : suc (length vs) ≤ 1024 → kindOf throwing ≡ begun 74
       → exec (body (kindOf throwing)) throwing ≡ noting (did (A.jump (f .ip + 1)) []) (pushing throwing f fs v vs h none)
   outcome l e =
-      let w = kind-within (ltb (f .ip) (running throwing f .size)) (getD (s .code) (running throwing f .at + f .ip) 0) e in
+      let w = kind-within 74 (ltb (f .ip) (running throwing f .size)) (getD (s .code) (running throwing f .at + f .ip) 0) e in
       ap (λ (k : Kind). exec (body k) throwing) e
       ∙ fetched throwing f fs v vs h (ltb (f .ip) (running throwing f .size)) (getD (s .code) (running throwing f .at + f .ip) 0) (w .0) (w .1)
       ∙ ap (λ (o : Outcome). noting (did (A.jump (f .ip + 1)) []) o) (thrown s f fs v vs h hs)
       ∙ ap (λ (x : Option JsVmError). noting (did (A.jump (f .ip + 1)) []) (pushing throwing f fs v vs h x)) (room vs (h .operands) l)
 
-  caught : suc (length vs) ≤ 1024 → 1 ≤ h .frames → kindOf throwing ≡ begun 74 → Caught (step throwing) v vs h hs
+  caught : suc (length vs) ≤ 1024 → 1 ≤ h .frames → kindOf throwing ≡ begun 74 → Caught (step throwing) v vs (savedBy h) (map savedBy hs)
   caught l g e =
       let E = outcome l e in
       let k = frames-left (f .ip + 1) (h .catch) f fs (suc (length fs) - h .frames) (omega arith) in
       record {
         noError = ap (λ (o : Outcome). o .how) E;
         operands = ap (λ (o : Outcome). after throwing o .operands) E ∙ ap (λ (x : List Value). v ∷ x) (sym (lowest-min (h .operands) vs));
-        handlers = ap (λ (o : Outcome). after throwing o .handlers) E;
+        handlers = ap (λ (o : Outcome). map savedBy (after throwing o .handlers)) E;
         top = k .top;
         below = k .below;
         left = lowest-min (h .frames) (f ∷ fs) ∙ k .left;
         frames = ap (λ (o : Outcome). after throwing o .frames) E ∙ k .at;
       }
 
-pub throws : (s : State) (t : Tally) → Sound s t → Throws (step s)
-throws s t r e v vs h hs eo eh = go (s .frames) refl
+-- The newest handler of the machine is the tally's.
+abbrev CaughtBy : Step → Value → List Value → List Saved → Type 0
+CaughtBy p v vs [] = ⊥
+CaughtBy p v vs (k ∷ ks) = Caught p v vs k ks
+
+pub throws : (s : State) (t : Tally) → Sound s t → Throws t (step s)
+throws s t r e v vs k ks eo ek = pending (s .handlers) refl
   where
-    go : (fs : List Frame) → s .frames ≡ fs → Caught (step s) v vs h hs
-    go [] ef = let z : _≡_ {A = Kind} noFrame (begun 74) = ap (kindIn s) (sym ef) ∙ e in let y : _≡_ {A = ℕ} 0 1 = cc in absurd (omega arith)
-    go (f ∷ fs) ef =
+    go : (h : Handler) (hs : List Handler) → s .handlers ≡ h ∷ hs → (fs : List Frame) → s .frames ≡ fs → Caught (step s) v vs (savedBy h) (map savedBy hs)
+    go h hs eh [] ef = let z : _≡_ {A = Kind} noFrame (begun 74) = ap (kindIn s) (sym ef) ∙ e in let y : _≡_ {A = ℕ} 0 1 = cc in absurd (omega arith)
+    go h hs eh (f ∷ fs) ef =
         let σ : s ≡ throwing s f fs v vs h hs = λ i. S.setOperands (eo i) (S.setHandlers (eh i) (S.setFrames (ef i) s)) in
-        subst (λ (x : State). Caught (step x) v vs h hs) (sym σ)
+        subst (λ (x : State). Caught (step x) v vs (savedBy h) (map savedBy hs)) (sym σ)
         (caught s f fs v vs h hs (let q = r .few in let p = ap length eo in omega arith)
         (rw eh at (r .saved) .0) (subst (λ (x : State). kindOf x ≡ begun 74) σ e))
+
+    pending : (hs : List Handler) → s .handlers ≡ hs → Caught (step s) v vs k ks
+    pending [] eh = let z : _≡_ {A = List Saved} [] (k ∷ ks) = ap (map savedBy) (sym eh) ∙ r .handlers ∙ ek in let y : _≡_ {A = ℕ} 0 (suc (length ks)) = ap length z in absurd (omega arith)
+    pending (h ∷ hs) eh = subst (CaughtBy (step s) v vs) (ap (map savedBy) (sym eh) ∙ r .handlers ∙ ek) (go h hs eh (s .frames) refl)

@@ -2,17 +2,17 @@
 use mathlib.Core.Path.{_≡_}
 use mathlib.Core.Logic.{_↔_}
 use mathlib.Core.Bool.{Bool, true, false}
-use mathlib.Core.List.{List, [], _∷_, _++_}
-use Prim.Native.Nat.{ℕ, zero, suc, _+_, _≤_, _<_, min}
-use lib.ListN.{length}
-use Rattle.machine.specs.Basic.{lowest}
-use Rattle.machine.specs.Value.{Value, Text}
-use Rattle.machine.specs.State.{State, Bytes, bytes, Frame, Handler, Store, fresh, bytesOf, endOf, limit, used, operandLimit, setIp, question}
+use mathlib.Core.List.{List, [], _∷_, _++_, map}
+use Prim.Native.Nat.{ℕ, zero, suc, _+_, _*_, _≤_, _<_, min}
+use lib.ListN.{length, getD}
+use Rattle.machine.specs.Basic.{lowest, sumOf}
+use Rattle.machine.specs.Value.{Value, Text, Home, inCode, inText}
+use Rattle.machine.specs.State.{State, Bytes, bytes, Frame, Handler, Store, fresh, running, bytesOf, endOf, limit, used, operandLimit, setIp, question}
 use Rattle.machine.specs.Act.{Given, Held}
 use Rattle.machine.specs.Program.{Event, asked, did, How, went, ended, refused, Outcome}
 use Rattle.machine.specs.Run.{Kind, begun, runOut, noFrame, Step, Result, after}
 use Rattle.machine.specs.Host.{Call, Answer, Called, history, leaves}
-use Rattle.machine.specs.Tally.{Tally, nothing, useOf, tallyCode, tallyImages, tallyFunctions, tallyFrames, tallyOutput, addGiven, count, counted, unlessRefused}
+use Rattle.machine.specs.Tally.{Tally, Saved, nothing, useOf, tallyCode, tallyImages, tallyFunctions, tallyFrames, tallyOutput, addGiven, count, counted, unlessRefused}
 
 abbrev pub All : {A : Type 0} → (A → Type 0) → List A → Type 0
 All P [] = Unit {0}
@@ -117,7 +117,16 @@ TextsCalls hs (d ∷ ds) =
     TextsSteps (heldStart hs d) (d .steps) × All (HasBytes (d .after)) (heldCall hs d) × TextsCalls (heldCall hs d) ds
 
 -- 3. Space questions, each against the tally up to there: answered no exactly where the tally and the amount are above the limit; the amount
--- is what the act adds to that use; and after a no nothing else is asked or done.
+-- is what the act adds to that use; and after a no nothing else is asked or done. What an act adds to the text store's use are the texts that it
+-- brings there: no byte that is counted is of a text that is not held.
+
+abbrev pub bytesIn : Home → ℕ → ℕ
+bytesIn inCode n = 0
+bytesIn inText n = n
+
+-- the bytes of the texts that lie in the text store
+abbrev pub storedBytes : List Held → ℕ
+storedBytes hs = sumOf (λ h. bytesIn (h .text .store) (h .text .size)) hs
 
 abbrev pub Right : Tally → List Event → Type 0
 Right t [] = Unit {0}
@@ -126,7 +135,7 @@ Right t (asked a n b ∷ es) =
     × (useOf (count a t) (n .of) ≡ useOf t (n .of) + n .amount)
     × (b ≡ false → es ≡ [])
     × Right t es
-Right t (did a hs ∷ es) = Right (count a t) es
+Right t (did a hs ∷ es) = (count a t .text ≡ t .text + storedBytes hs) × Right (count a t) es
 
 abbrev pub tallyStep : Tally → Step → Tally
 tallyStep t p = unlessRefused (p .outcome .how) t (counted t (p .outcome .events))
@@ -157,6 +166,20 @@ abbrev pub RightCalls : Tally → List Called → Type 0
 RightCalls t [] = Unit {0}
 RightCalls t (d ∷ ds) =
     Right t (d .events) × RightSteps (tallyStart t d) (d .steps) × RightCalls (tallySteps (tallyStart t d) (d .steps)) ds
+
+-- The texts brought since the last clear account for the text store's use: all that is held but the handles that host calls keep, which name
+-- bytes that are there already.
+
+abbrev pub keptStart : List Held → Called → List Held
+keptStart hs d = unlessRefusal (d .answer) hs (heldAccepted (d .call) hs (broughtBy (d .events)))
+
+abbrev pub keptCall : List Held → Called → List Held
+keptCall hs d = heldSteps (keptStart hs d) (d .steps)
+
+abbrev pub StoredCalls : Tally → List Held → List Called → Type 0
+StoredCalls t hs [] = Unit {0}
+StoredCalls t hs (d ∷ ds) =
+    let u = tallySteps (tallyStart t d) (d .steps) in (u .text ≡ storedBytes (keptCall hs d)) × StoredCalls u (keptCall hs d) ds
 
 -- A call or a run gives the number of a space question exactly where that question was its last and was answered no; and every step of a run
 -- but the last went on.
@@ -224,26 +247,58 @@ finish (t ∷ (u ∷ ts)) = finish (u ∷ ts)
 abbrev pub Summed : Called → Type 0
 Summed d = (e : Result) (n : ℕ) → d .answer ≡ Answer.ran e n → n ≡ total isBegun (d .steps) + total isRunOut (d .steps) + finish (d .steps)
 
--- 5. Throw: one that has popped its value v, with a handler h pending. Operands and frames are cut to what h saved, or to those that stand where
--- they are fewer; the value is pushed, and the frame then on top goes on at the catch place.
-pub record Caught (t : Step) (v : Value) (vs : List Value) (h : Handler) (hs : List Handler) : Type 0 where
+-- 5. Throw: one that has popped its value v, with a handler pending by the tally: h is what its EnterTry saved, as tallied there. Operands and
+-- frames are cut to what h saved, or to those that stand where they are fewer; the value is pushed, and the frame then on top goes on at h's
+-- catch place; the handlers left are the tally's others.
+
+-- What a handler saved, as the tally has it.
+abbrev pub savedBy : Handler → Saved
+savedBy h = record { catch = h .catch; operands = h .operands; frames = h .frames }
+
+pub record Caught (t : Step) (v : Value) (vs : List Value) (h : Saved) (hs : List Saved) : Type 0 where
   pub noError : t .outcome .how ≡ went
   pub operands : after (t .before) (t .outcome) .operands ≡ v ∷ lowest (min (length vs) (h .operands)) vs
-  pub handlers : after (t .before) (t .outcome) .handlers ≡ hs
+  pub handlers : map savedBy (after (t .before) (t .outcome) .handlers) ≡ hs
   pub top : Frame
   pub below : List Frame
   pub left : lowest (min (length (t .before .frames)) (h .frames)) (t .before .frames) ≡ top ∷ below
   pub frames : after (t .before) (t .outcome) .frames ≡ setIp (h .catch) top ∷ below
 
-abbrev pub Throws : Step → Type 0
-Throws t = t .kind ≡ begun 74 → (v : Value) (vs : List Value) (h : Handler) (hs : List Handler)
-    → t .before .operands ≡ v ∷ vs → t .before .handlers ≡ h ∷ hs → Caught t v vs h hs
+abbrev pub Throws : Tally → Step → Type 0
+Throws k t = t .kind ≡ begun 74 → (v : Value) (vs : List Value) (h : Saved) (hs : List Saved)
+    → t .before .operands ≡ v ∷ vs → k .handlers ≡ h ∷ hs → Caught t v vs h hs
+
+abbrev pub ThrowsSteps : Tally → List Step → Type 0
+ThrowsSteps k [] = Unit {0}
+ThrowsSteps k (t ∷ ts) = Throws k t × ThrowsSteps (tallyStep k t) ts
+
+abbrev pub ThrowsCalls : Tally → List Called → Type 0
+ThrowsCalls k [] = Unit {0}
+ThrowsCalls k (d ∷ ds) = ThrowsSteps (tallyStart k d) (d .steps) × ThrowsCalls (tallySteps (tallyStart k d) (d .steps)) ds
+
+-- 6. EnterTry: one that goes on saves the catch place that its operand says, and the operands and the frames that stand there.
+
+-- the number of two bytes of code
+abbrev pub wordAt : List ℕ → ℕ → ℕ → ℕ
+wordAt code high low = getD code high 0 * 256 + getD code low 0
+
+-- the operand behind the opcode at the newest frame's place
+abbrev pub operandOf : State → List Frame → ℕ
+operandOf s [] = 0
+operandOf s (f ∷ fs) = wordAt (s .code) (running s f .at + (f .ip + 1)) (running s f .at + (f .ip + 1 + 1))
+
+abbrev pub Enters : Step → Type 0
+Enters t = t .kind ≡ begun 75 → t .outcome .how ≡ went
+    → after (t .before) (t .outcome) .handlers
+    ≡ record { catch = operandOf (t .before) (t .before .frames); operands = length (t .before .operands); frames = length (t .before .frames) } ∷ t .before .handlers
 
 -- The claim
 pub record Demand3 (calls : List Call) : Type 0 where
   pub slots : All OrderlyCall (history fresh calls)
   pub texts : TextsCalls [] (history fresh calls)
   pub space : RightCalls nothing (history fresh calls)
+  pub stored : StoredCalls nothing [] (history fresh calls)
   pub refusals : All Honest (history fresh calls)
   pub sums : All Summed (history fresh calls)
-  pub throws : All (λ d. All Throws (d .steps)) (history fresh calls)
+  pub throws : ThrowsCalls nothing (history fresh calls)
+  pub tries : All (λ d. All Enters (d .steps)) (history fresh calls)

@@ -15,8 +15,9 @@ pub record Pair : Type 0 where
   pub object : ℕ
   pub key : List ℕ
 
--- The operands and the frames that stood at an EnterTry, as tallied there.
+-- What an EnterTry saved: its catch place, and the operands and the frames that stood there, as tallied.
 pub record Saved : Type 0 where
+  pub catch : ℕ
   pub operands : ℕ
   pub frames : ℕ
 
@@ -151,7 +152,7 @@ count (jump p) t = t
 count (pushFrame i k vs) t = tallyFrames (length vs ∷ t .frames) t
 count popFrame t = tallyFrames (rest (t .frames)) t
 count (store i v) t = tallyFrames (reach i (t .frames)) t
-count (pushHandler p) t = tallyHandlers (record { operands = t .operands; frames = length (t .frames) } ∷ t .handlers) t
+count (pushHandler p) t = tallyHandlers (record { catch = p; operands = t .operands; frames = length (t .frames) } ∷ t .handlers) t
 count popHandler t = tallyHandlers (rest (t .handlers)) t
 count unwind t = unwound (t .handlers) t
 count (addFunction i k) t = tallyFunctions (t .functions + 1) t
