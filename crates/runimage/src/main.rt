@@ -1,5 +1,5 @@
 //! The bench sheet's program: reads an image from standard input, loads and runs it, and prints one line of what came of it, then each line of its
-//! output after `>`.
+//! output after `>`. An input above MOST bytes is told instead, in a line that does not begin with `end`: nothing is loaded of it, and no call has a number for it.
 use engine::Changed;
 use engine::Drained;
 use engine::Numbered;
@@ -230,8 +230,13 @@ fn whole(
 }
 
 fn main() {
-    let mut input: [u8; MOST] = [0; MOST];
+    let mut input: [u8; MOST + 1] = [0; MOST + 1];
     let n = io::read_full(0, &mut input);
+    if MOST < n {
+        say(b"input above ", MOST as u64);
+        io::write_all(STDOUT_FILENO, b" bytes: not loaded\n");
+        return;
+    }
     let mut code: [u8; 32768] = [0; 32768];
     let mut places: [u16; 32768] = [0; 32768];
     let mut rows: [u16; 32768] = [0; 32768];
