@@ -12,6 +12,9 @@
 extern "C" {
 #endif
 
+/* The library takes and gives sizes of 64 bits; elsewhere this does not compile. */
+typedef char carderwheel_size_t_has_64_bits_[sizeof(size_t) == 8 ? 1 : -1];
+
 /* Document 01's limits, and what a buffer needs at most. */
 enum {
     CARDERWHEEL_STACK_WORDS = 9728, /* operands 1,024 and slots 2,048 of 3 words, frames 64 of 5, handlers 64 of 3 */
@@ -120,23 +123,27 @@ carderwheel_answer_ carderwheel_drain_in(const uint8_t *code, size_t code_size, 
     size_t rows_size, const uint16_t *starts, size_t starts_size, const uint64_t *stacks, size_t stacks_size, const uint64_t *heap, size_t heap_size,
     const uint8_t *text, size_t text_size, const uint8_t *output, size_t output_size, carderwheel_counts counts, uint8_t *buffer, size_t buffer_size);
 
-#define CARDERWHEEL_STORES_(e)                                                                                                              \
+#define CARDERWHEEL_LENT_(e)                                                                                                                \
     (e)->code, CARDERWHEEL_CODE_BYTES, (e)->places, CARDERWHEEL_CODE_BYTES, (e)->rows, CARDERWHEEL_CODE_BYTES, (e)->starts,                 \
         CARDERWHEEL_IMAGES, (e)->stacks, CARDERWHEEL_STACK_WORDS, (e)->heap, CARDERWHEEL_HEAP_WORDS, (e)->text, CARDERWHEEL_TEXT_BYTES,     \
-        (e)->output, CARDERWHEEL_OUTPUT_BYTES, (e)->counts
+        (e)->output, CARDERWHEEL_OUTPUT_BYTES
+
+#define CARDERWHEEL_STORES_(e) CARDERWHEEL_LENT_(e), (e)->counts
 
 /* The library wants a pointer where there are no bytes, too. */
 static inline const uint8_t *carderwheel_bytes_(const uint8_t *bytes, size_t size) {
     return size != 0 ? bytes : (const uint8_t *)"";
 }
 
-/* The calls. Each answers document 01's number: 0 is acceptance (of carderwheel_run: that the run finished). Where it is not 0, nothing
-   else is written. Bytes given to a call, and its buffer, lie outside the engine. */
+/* The calls. Each answers document 01's number: 0 is acceptance (of carderwheel_run: that the run finished). A refused call alters nothing, neither
+   the engine nor what its other pointers name. A run that started was not refused, whatever its number: it leaves what it did up to its end. Bytes given
+   to a call, and its buffer, lie outside the engine. */
 
-/* The engine as new: no images, no texts, and `console` its only global. Also before the first use. */
+/* The engine as new: no images, no texts, and `console` its only global. Also before the first use: the counts may be unwritten, and are not read. */
 static inline uint64_t carderwheel_clear(carderwheel *e) {
-    carderwheel_answer_ a = carderwheel_clear_in(CARDERWHEEL_STORES_(e));
-    e->counts = a.counts;
+    carderwheel_counts none = {0, 0, 0, 0, 0, 0, 0, 0, 0, 0, 0, 0, 0};
+    carderwheel_answer_ a = carderwheel_clear_in(CARDERWHEEL_LENT_(e), none);
+    if (a.number == 0) e->counts = a.counts;
     return a.number;
 }
 

@@ -1,9 +1,12 @@
 //! The script engine of the ice-radar logger, as a safe type that owns its stores.
 //!
 //! [`Engine`] is a plain struct of 358,536 bytes: a `static` behind a lock, a field, or a box of the user's. Nothing is allocated. Every call answers with
-//! document 01's number where it is refused, and then has altered nothing; docs/EMBEDDING.md has the calling order and what to do about each number.
+//! document 01's number where it is refused, and then has altered nothing; a run that started is not refused, however it ends. docs/EMBEDDING.md has the
+//! calling order and what to do about each number.
 #![no_std]
 #![deny(missing_docs, unsafe_op_in_unsafe_fn, clippy::undocumented_unsafe_blocks)]
+
+const _: () = assert!(usize::BITS == 64, "the library takes and gives sizes of 64 bits");
 
 const STACK_WORDS: usize = 9728;
 const HEAP_WORDS: usize = 9472;
@@ -238,6 +241,7 @@ impl Engine {
 
     /// The engine as new: no images, no texts, and `console` its only global.
     pub fn clear(&mut self) {
+        // never refused: it asks for the stores' sizes, which an engine has, and for no counts
         let a = call!(carderwheel_clear_in, self.as_mut_ptr());
         self.counts = a.counts;
     }
