@@ -1,5 +1,5 @@
 -- A run, step by step. Assumes nothing.
-use Prim.Native.Nat.{ℕ, zero, suc, _+_, _-_, _≤_, _<_}
+use Prim.Native.Nat.{ℕ, zero, suc, _+_, _-_, _*_, _≤_, _<_}
 use native.Mathlib.Omega.{arith}
 use mathlib.Core.List.{List, []}
 use mathlib.Core.Path.{_≡_, refl, sym, ap, subst, _∙_}
@@ -15,13 +15,13 @@ use Rattle.machine.specs.Out.{Out, outOf, went, ended, refused, out}
 use Rattle.machine.proofs.Bounded.{Bounded}
 use Rattle.machine.proofs.Unique.{Unique, went-unique}
 use Rattle.value.specs.Errors.{errorOf, spaceOf}
-use Rattle.value.specs.Lists.{bytesOf, row-length, stack-length}
+use Rattle.value.specs.Lists.{bytesOf, row-length, stack-length, stack-none}
 use Rattle.value.specs.Words.{valueOf}
 use Rattle.value.specs.declared.JsVmError.the-variants.{ExecutionLimitExceeded}
 use Rattle.value.specs.declared.Space.{Space}
 use Rattle.texts.specs.Keeps.{textLimit, outputLimit}
 use Rattle.texts.specs.Sources.{InUse}
-use Rattle.stacks.specs.Layout.{stackWords}
+use Rattle.stacks.specs.Layout.{framesAt, stackWords}
 use Rattle.stacks.specs.Laws.{top-length}
 use Rattle.stacks.specs.View as Stacks
 use Rattle.stacks.specs.declared.Depths.{Depths}
@@ -50,8 +50,48 @@ use Rattle.run.specs.declared.Ending.{Ending}
 use Rattle.run.specs.declared.Ending.the-variants.{Finished, Failed, Full}
 use Rattle.run.specs.declared.Ran.{Ran}
 
+-- The place of the newest frame: 0 where none stands.
+abbrev pub placeIn : ℕ → ℕ → ℕ
+placeIn zero p = 0
+placeIn (suc n) p = p
+
+abbrev pub atRest : Counts → Counts
+atRest c = let d = c .depths in
+    withDepths (record { operands = d .operands; slots = d .slots; frames = d .frames; handlers = d .handlers; ip = placeIn (d .frames) (d .ip) }) c
+
+place-some : (n p : ℕ) → (n ≡ 0 → ⊥) → p ≡ placeIn n p
+place-some zero p h = absurd (h refl)
+place-some (suc n) p h = refl
+
+-- the counts with another place
+abbrev placedAt : ℕ → Counts → Counts
+placedAt p c = let d = c .depths in withDepths (record { operands = d .operands; slots = d .slots; frames = d .frames; handlers = d .handlers; ip = p }) c
+
+pub rest-none : (c : Counts) → c .depths .frames ≡ 0 → placedAt 0 c ≡ atRest c
+rest-none c e = ap (λ (n : ℕ). placedAt (placeIn n (c .depths .ip)) c) (sym e)
+
+pub rest-some : (c : Counts) → (c .depths .frames ≡ 0 → ⊥) → c ≡ atRest c
+rest-some c h = ap (λ (p : ℕ). placedAt p c) (place-some (c .depths .frames) (c .depths .ip) h)
+
+pub record Placed (d : Depths) : Type 0 where
+  pub place : d .frames ≡ 0 → d .ip ≡ 0
+
+pub rest-placed : (c : Counts) → Placed (atRest c .depths)
+rest-placed c = record { place = λ e. ap (λ (n : ℕ). placeIn n (c .depths .ip)) e }
+
+frames-rest : (w : List ℕ) (n p : ℕ) → Stacks.framesOf w n (placeIn n p) ≡ Stacks.framesOf w n p
+frames-rest w zero p = rw (stack-none (λ i. Stacks.frameAt w (framesAt + 5 * i))) refl
+frames-rest w (suc n) p = refl
+
+-- the state does not see it
+pub rest-state : (c : Counts) (m : Mem) (s : St.State) → stateOf (atRest c) m s ≡ stateOf c m s
+rest-state c m s =
+    let d = c .depths in
+    ap (λ (f : List St.Frame). Stacks.under (Stacks.operandsOf (m .stacks) (d .operands)) (Stacks.slotsOf (m .stacks) (d .slots)) f (Stacks.handlersOf (m .stacks) (d .handlers)) (below c m s))
+    (frames-rest (m .stacks) (d .frames) (d .ip))
+
 abbrev pub ranTo : Ending → ℕ → Counts → Ran
-ranTo e n c = record { end = e; steps = n; counts = c }
+ranTo e n c = record { end = e; steps = n; counts = atRest c }
 
 abbrev pub resultOf : Ending → R.Result
 resultOf (Finished v) = R.ended (P.finished (valueOf v))
@@ -295,17 +335,31 @@ module _ {b : St.State} {all : Told} {k : ℕ} {c : Counts} {g : Tables} {m : Me
 abbrev pub groundOf : Counts → Tables → St.State
 groundOf c g = Fi.setCode (bytesOf (g .code) (c .code)) (Fi.setImages (imagesOf (g .code) (g .places) (g .rows) (g .starts) (c .images)) St.fresh)
 
+grounds : (c e : Counts) (g : Tables) → e .code ≡ c .code → e .images ≡ c .images → groundOf c g ≡ groundOf e g
+grounds c e g p q =
+    ap (λ (n : ℕ). Fi.setCode (bytesOf (g .code) n) (Fi.setImages (imagesOf (g .code) (g .places) (g .rows) (g .starts) (c .images)) St.fresh)) (sym p)
+    ∙ ap (λ (n : ℕ). Fi.setCode (bytesOf (g .code) (e .code)) (Fi.setImages (imagesOf (g .code) (g .places) (g .rows) (g .starts) n) St.fresh)) (sym q)
+
 abbrev pub stateIn : Counts → Tables → Mem → St.State
 stateIn c g m = stateOf c m (groundOf c g)
 
 abbrev pub ranOf : Ran → Counts → Tables → Mem → Told
 ranOf r c g m = tell (r .steps) (resultOf (r .end)) (stateOf (r .counts) m (groundOf c g))
 
+-- a run that begins, and one that goes on from here
 pub begins : {c : Counts} {g : Tables} {m : Mem} → Whole c g m (groundOf c g) → Underway (stateIn c g m) (runOf 100000 0 (stateIn c g m)) 0 c g m (groundOf c g)
 begins w = record { left = λ z. refl; unique = λ z. z; whole = w }
 
--- what a run leaves: the stores whole, and the code and the images as many as before
+pub begins-at : (k : ℕ) {c : Counts} {g : Tables} {m : Mem} {s : St.State} → Whole c g m s → Underway (stateOf c m s) (runOf (100000 - k) k (stateOf c m s)) k c g m s
+begins-at k w = record { left = λ z. refl; unique = λ z. z; whole = w }
+
+-- the same code and images, so the same ground
+pub whole-here : (c : Counts) {e : Counts} {g : Tables} {m : Mem} → Whole e g m (groundOf c g) → e .code ≡ c .code → e .images ≡ c .images → Whole e g m (groundOf e g)
+whole-here c {e} {g} {m} w p q = subst (λ (s : St.State). Whole e g m s) (grounds c e g p q) w
+
+-- what a run leaves: the stores whole, the code and the images as many as before, and no place where no frame stands
 pub record Leaves (c e : Counts) (g : Tables) (m : Mem) : Type 0 where
+  pub placed : Placed (e .depths)
   pub whole : Whole e g m (groundOf c g)
   pub code : e .code ≡ c .code
   pub images : e .images ≡ c .images

@@ -146,11 +146,11 @@ pub record Speeds (c : Counts) (g : Tables) (w h t : List ℕ) (k : ℕ) (r : Sp
   pub sized : Sized (r .counts .sizes) h′
   pub texts : (r .counts .text ≤ textLimit) × (length t′ ≡ textLimit)
   pub from : k ≤ r .steps
-  pub to : r .steps ≤ 100000
+  pub to : r .steps < 100000
   pub code : r .counts .code ≡ c .code
   pub images : r .counts .images ≡ c .images
 
-pub speed-none : {c : Counts} {g : Tables} {w h t : List ℕ} {k : ℕ} → Stacks.Ready (c .depths) w → Sized (c .sizes) h → (c .text ≤ textLimit) × (length t ≡ textLimit) → k ≤ 100000 → Speeds c g w h t k (spedTo c k) w h t
+pub speed-none : {c : Counts} {g : Tables} {w h t : List ℕ} {k : ℕ} → Stacks.Ready (c .depths) w → Sized (c .sizes) h → (c .text ≤ textLimit) × (length t ≡ textLimit) → k < 100000 → Speeds c g w h t k (spedTo c k) w h t
 speed-none a b d l = record { goes = λ u. u; ready = a; sized = b; texts = d; from = omega arith; to = l; code = refl; images = refl }
 
 -- a run that is under way, j steps on
@@ -208,15 +208,6 @@ module _ {c d : Counts} {g : Tables} {w h t w₁ h₁ t₁ : List ℕ} {k j : �
     speed-left f =
         let m : mem w₂ h₁ t₂ [] ≡ mem w₁ h₁ t₁ [] = rw f at (r [] .told) in
         subst (λ (y : Mem). Speeds c g w h t k (spedTo d j) (y .stacks) (y .heap) (y .text)) (sym m) p
-
--- from one moment of a run to a later one
-pub record Proceeds (g : Tables) (q : Sped) (m : Mem) (r : Sped) (m′ : Mem) : Type 0 where
-  pub goes : {b : St.State} {all : Told} {s : St.State} → Underway b all (q .steps) (q .counts) g m s → Underway b all (r .steps) (r .counts) g m′ s
-  pub code : r .counts .code ≡ q .counts .code
-  pub images : r .counts .images ≡ q .counts .images
-
-pub proceeds-none : {g : Tables} {q : Sped} {m : Mem} → Proceeds g q m q m
-proceeds-none = record { goes = λ u. u; code = refl; images = refl }
 
 pub not-false : (b : Bool) → not b ≡ false → b ≡ true
 not-false true e = refl

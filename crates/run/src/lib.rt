@@ -1,26 +1,18 @@
 //! A run: its steps, counted, and its answer.
+mod advance;
 mod speed;
 
-use fetch::Running;
+use advance::advance_copy;
 use heapops::Counts;
 use heapops::How;
-use heapops::Turned;
 use heapops::with_depths;
 use outcome::End;
-use outcome::Part;
 use speed::HINTS;
-use speed::speed;
 use value::JsVmError;
 use value::Space;
 use value::Value;
 ghost use mathlib.Core.Path.{_≡_};
-ghost use Prim.Native.Nat.{_≤_};
-ghost use lib.ListN.{length};
 ghost use Rattle.machine.proofs.Unique.{Unique};
-ghost use Rattle.stacks.specs.View.{Ready};
-ghost use Rattle.texts.specs.Keeps.{textLimit, outputLimit};
-ghost use Rattle.heap.specs.View.{Sized};
-ghost use Rattle.fetch.specs.Running.{Runs};
 ghost use Rattle.machine.specs.Run as R;
 ghost use Rattle.machine.specs.Error as E;
 ghost use Rattle.machine.specs.State as St;
@@ -28,7 +20,7 @@ ghost use Rattle.value.specs.Errors.{errorOf, spaceOf};
 ghost use Rattle.value.specs.Words.{valueOf};
 ghost use Rattle.heapops.specs.Turns.{mem};
 ghost use Rattle.finish.specs.Parts.{tables};
-ghost use Rattle.run.specs.Runs.{resultOf, endingOf, ranTo, Takes, Whole, groundOf, stateIn, ranOf, runOf, Leaves};
+ghost use Rattle.run.specs.Runs.{resultOf, endingOf, ranTo, atRest, Whole, groundOf, stateIn, ranOf, runOf, Leaves};
 
 pub enum Ending {
     Finished(Value),
@@ -42,9 +34,22 @@ pub struct Ran {
     pub counts: Counts,
 }
 
-fn ran_to(end: Ending, steps: usize, counts: Counts) -> Ran
-    ensures { λ r. ⌜ r ≡ ranTo end steps counts ⌝ }
+// Where no frame stands, there is no place in one: 0.
+fn at_rest(c: Counts) -> Counts
+    ensures { λ r. ⌜ r ≡ atRest c ⌝ }
 {
+    let mut d = c.depths;
+    if d.frames == 0 {
+        d.ip = 0;
+        return with_depths(c, d);
+    }
+    c
+}
+
+fn ran_to(end: Ending, steps: usize, c: Counts) -> Ran
+    ensures { λ r. ⌜ r ≡ ranTo end steps c ⌝ }
+{
+    let counts = at_rest(c);
     Ran { end, steps, counts }
 }
 
@@ -128,48 +133,7 @@ pub fn end_value(e: Ending) -> Value
 // `max_steps`
 pub const MAX_STEPS: usize = 100000;
 
-// A step by the dispatcher, and what it leaves to do.
-fn turn(
-    x: Running,
-    c: Counts,
-    code: &[u8],
-    places: &[u16],
-    rows: &[u16],
-    starts: &[u16],
-    stacks: &mut [u64],
-    heap: &mut [u64],
-    text: &mut [u8],
-    output: &mut [u8],
-) -> Turned
-    requires { ⌜ Ready (c .depths) (now stacks) ⌝ }
-    requires { ⌜ ((c .depths .frames ≡ 0 → ⊥) → Runs x (c .depths) (now stacks)) ⌝ }
-    requires { ⌜ c .code ≤ length (now code) ⌝ }
-    requires { ⌜ Sized (c .sizes) (now heap) ⌝ }
-    requires { ⌜ (c .text ≤ textLimit) × (length (now text) ≡ textLimit) ⌝ }
-    requires { ⌜ (c .output ≤ outputLimit) × (length (now output) ≡ outputLimit) ⌝ }
-    ensures { λ t. ⌜ Takes x c (tables (now (code .entry)) (now (places .entry)) (now (rows .entry)) (now (starts .entry))) (mem (now (stacks .entry)) (now (heap .entry)) (now (text .entry)) (now (output .entry))) t (mem (now (stacks .exit)) (now (heap .exit)) (now (text .exit)) (now (output .exit))) ⌝ }
-{
-    let r = advance::step(x, c.depths, code, c.code, places, stacks, text, c.text);
-    let part = r.how;
-    match part {
-        Part::Went => heapops::went(with_depths(c, r.depths)),
-        _ => finish::finish(
-            r,
-            x,
-            c,
-            code,
-            places,
-            rows,
-            starts,
-            stacks,
-            heap,
-            text,
-            output,
-        ),
-    }
-}
-
-// The steps of a run, counted: quick ones as long as they come, then one by the dispatcher.
+// The steps of a run, counted.
 pub fn run_loop(
     c: Counts,
     code: &[u8],
@@ -189,53 +153,37 @@ pub fn run_loop(
 {
     let mut x = fetch::find(rows, starts, c.images, 0, 0);
     let mut hints = [0; HINTS];
-    let mut q = speed(
-        x,
-        c,
-        0,
-        code,
-        places,
-        rows,
-        starts,
-        stacks,
-        heap,
-        text,
-        &mut hints,
-    );
-    while q.steps < MAX_STEPS {
-        let d = q.counts;
-        let steps = q.steps + 1;
-        x = fetch::current(x, d.depths, stacks, rows, starts, d.images);
-        let t = turn(x, d, code, places, rows, starts, stacks, heap, text, output);
-        let how = t.how;
-        let counts = t.counts;
+    let mut d = c;
+    let mut steps: usize = 0;
+    while steps < MAX_STEPS {
+        let r = advance_copy(
+            x,
+            d,
+            steps,
+            code,
+            places,
+            rows,
+            starts,
+            stacks,
+            heap,
+            text,
+            output,
+            &mut hints,
+        );
+        let p = r.progress;
+        d = r.counts;
+        x = p.running;
+        steps = p.steps;
+        let how = p.how;
         match how {
-            How::Went => {
-                q = speed(
-                    x,
-                    counts,
-                    steps,
-                    code,
-                    places,
-                    rows,
-                    starts,
-                    stacks,
-                    heap,
-                    text,
-                    &mut hints,
-                );
-            }
+            How::Went => {}
             How::Ended(e) => {
-                return ran_to(ended_by(e), steps, counts);
+                return ran_to(ended_by(e), steps, d);
             }
             How::Refused(q) => {
                 return ran_to(Ending::Full(q), steps, d);
             }
         }
     }
-    ran_to(
-        Ending::Failed(JsVmError::ExecutionLimitExceeded),
-        q.steps,
-        q.counts,
-    )
+    ran_to(Ending::Failed(JsVmError::ExecutionLimitExceeded), steps, d)
 }

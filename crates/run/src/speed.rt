@@ -188,7 +188,7 @@ pub fn speed(
     requires { ⌜ c .code ≤ length (now code) ⌝ }
     requires { ⌜ Sized (c .sizes) (now heap) ⌝ }
     requires { ⌜ (c .text ≤ textLimit) × (length (now text) ≡ textLimit) ⌝ }
-    requires { ⌜ steps ≤ 100000 ⌝ }
+    requires { ⌜ steps < 100000 ⌝ }
     ensures { λ r. ⌜ Speeds c (tables (now (code .entry)) (now (places .entry)) (now (rows .entry)) (now (starts .entry))) (now (stacks .entry)) (now (heap .entry)) (now (text .entry)) steps r (now (stacks .exit)) (now (heap .exit)) (now (text .exit)) ⌝ }
 {
     let mut x = y;

@@ -4,11 +4,11 @@ use denote.Ref.{now}
 use Rattle.heapops.specs.Turns.{mem}
 use Rattle.finish.specs.Parts.{tables}
 use Rattle.run.specs.Runs.{left-ready, takes-stacks, takes-all}
-use Rattle.run.proofs.turn.Statement.{statement}
-use Rattle.run.proofs.turn.Tie as tie
-use Rattle.run.proofs.turn.Reads as reads
-use Rattle.run.proofs.turn.Lts as lts
-use Rattle.advance.proofs.step.Reads as step-reads
+use Rattle.run.proofs.advance.turn.Statement.{statement}
+use Rattle.run.proofs.advance.turn.Tie as tie
+use Rattle.run.proofs.advance.turn.Reads as reads
+use Rattle.run.proofs.advance.turn.Lts as lts
+use Rattle.dispatch.proofs.step.Reads as step-reads
 use Rattle.finish.proofs.finish.Reads as finish-reads
 use Rattle.heapops.proofs.went.Reads as went-reads
 use Rattle.heapops.proofs.with_depths.Reads as with-depths-reads
