@@ -19,7 +19,7 @@ use Rattle.heapops.specs.declared.Counts.{Counts}
 use Rattle.heapops.specs.Turns.{Mem}
 use Rattle.finish.specs.Parts.{Tables}
 use Rattle.run.specs.Runs.{stateIn, resultOf}
-use Rattle.engine.specs.Calls.{Called, Clears, Buffered, answerOfNumbered, countsOfNumbered, answerOfChanged, countsOfChanged, answerOfRead, answerOfRun, countsOfRun, answerOfText, answerOfDrain, countsOfDrain}
+use Rattle.engine.specs.Calls.{lent, Called, Clears, Buffered, answerOfNumbered, countsOfNumbered, answerOfChanged, countsOfChanged, answerOfRead, answerOfRun, countsOfRun, answerOfText, answerOfDrain, countsOfDrain}
 use Rattle.engine.specs.declared.Changed.{Changed}
 use Rattle.engine.specs.declared.Changed.the-variants.{Done as Changed·Done, Refused as Changed·Refused}
 use Rattle.engine.specs.declared.Numbered.{Numbered}
@@ -183,23 +183,14 @@ flatDrain c (Drained·Refused n) = answer n 0 c
 
 -- THE LAWS, one for each shape of answer
 
-abbrev Is0 : H.Answer → Type 0
-Is0 (H.refusal zero) = Unit {0}
-Is0 (H.refusal (suc n)) = ⊥
-Is0 (H.numbered n) = ⊥
-Is0 H.done = ⊥
-Is0 (H.valued v) = ⊥
-Is0 (H.ran e n) = ⊥
-Is0 (H.wrote bs) = ⊥
-
 -- No call is refused with 0, so the number tells.
 module _ {call : H.Call} {c : Counts} {g g′ : Tables} {m m′ : Mem} where
   refused-called : (n : ℕ) (a : H.Answer) → Called call c g m (H.refusal n) c g′ m′ → Called call c g m (byNumber n a) c g′ m′
   refused-called zero a x = record {
-    machine = λ e s u. absurd (never-0 call (stateIn c g m) (x .machine e s u .0));
-    unlent = λ e. absurd (subst Is0 (x .unlent e) tt);
+    machine = λ r. absurd (never-0 (lent c g m) call (stateIn c g m) (x .machine r .0));
     refused = λ n e. x .refused 0 refl;
     stands = x .stands;
+    placed = x .placed;
   }
   refused-called (suc n) a x = x
 

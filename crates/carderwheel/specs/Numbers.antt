@@ -212,5 +212,6 @@ performed-told : (q : Option ℕ) (c : H.Call) (s : St.State) → Asked q → To
 performed-told (some n) c s h = h
 performed-told none c s h = settled-told (P.exec (H.makes c) s .how) c s (P.exec (H.makes c) s) (makes-goes c s)
 
-pub never-0 : (c : H.Call) (s : St.State) → H.perform c s .answer ≡ H.refusal 0 → ⊥
-never-0 c s e = subst Told e (performed-told (H.questions c s) c s (questions-asked c s))
+pub never-0 : (b : Bool) (c : H.Call) (s : St.State) → H.performOn b c s .answer ≡ H.refusal 0 → ⊥
+never-0 true c s e = subst Told e (performed-told (H.questions c s) c s (questions-asked c s))
+never-0 false c s e = subst Told e tt

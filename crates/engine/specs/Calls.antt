@@ -20,7 +20,7 @@ use Rattle.image.specs.declared.ImageCounts.{ImageCounts}
 use Rattle.heapops.specs.declared.Counts.{Counts}
 use Rattle.heapops.specs.Turns.{Mem}
 use Rattle.finish.specs.Parts.{Tables}
-use Rattle.run.specs.Runs.{stateIn, resultOf}
+use Rattle.run.specs.Runs.{stateIn, resultOf, Placed}
 use Rattle.engine.specs.declared.Changed.{Changed}
 use Rattle.engine.specs.declared.Changed.the-variants.{Done as Changed·Done, Refused as Changed·Refused}
 use Rattle.engine.specs.declared.Numbered.{Numbered}
@@ -63,13 +63,28 @@ imageCounts c = record { code = c .code; images = c .images }
 abbrev pub Stands : Counts → Tables → Type 0
 Stands c g = Sound (storesOf g) (imageCounts c)
 
--- THE CONTRACT OF A CALL: its answer and what it leaves are the machine's, over stores as calls leave them: the image tables stand, and no two rows have one key. A
--- refusal alters nothing.
+-- What the equation of a call rests on beside the sizes: of load that the image tables stand, of run that no two rows have one key. Every call leaves both; over
+-- stores that no call left so, document 01 has the answer open.
+abbrev pub Rests : H.Call → Counts → Tables → Mem → Type 0
+Rests (H.load bs) c g m = Stands c g
+Rests (H.register i t) c g m = Unit {0}
+Rests (H.setGlobal n v) c g m = Unit {0}
+Rests (H.readGlobal n) c g m = Unit {0}
+Rests (H.run i) c g m = Unique (stateIn c g m)
+Rests (H.text v n) c g m = Unit {0}
+Rests (H.drain n) c g m = Unit {0}
+Rests H.clear c g m = Unit {0}
+
+-- the machine's call over what is lent, question 33 first
+abbrev pub performed : H.Call → Counts → Tables → Mem → H.Called
+performed call c g m = H.performOn (lent c g m) call (stateIn c g m)
+
+-- THE CONTRACT OF A CALL: its answer and what it leaves are the machine's; a refusal alters nothing; and what the next call rests on stands again.
 pub record Called (call : H.Call) (c : Counts) (g : Tables) (m : Mem) (answer : H.Answer) (c′ : Counts) (g′ : Tables) (m′ : Mem) : Type 0 where
-  pub machine : lent c g m ≡ true → Stands c g → Unique (stateIn c g m) → (H.perform call (stateIn c g m) .answer ≡ answer) × (H.perform call (stateIn c g m) .after ≡ stateIn c′ g′ m′)
-  pub unlent : lent c g m ≡ false → answer ≡ H.refusal 33
+  pub machine : (lent c g m ≡ true → Rests call c g m) → (performed call c g m .answer ≡ answer) × (performed call c g m .after ≡ stateIn c′ g′ m′)
   pub refused : (n : ℕ) → answer ≡ H.refusal n → (c′ ≡ c) × (g′ ≡ g) × (m′ ≡ m)
   pub stands : lent c g m ≡ true → Stands c g → (lent c′ g′ m′ ≡ true) × Stands c′ g′
+  pub placed : Placed (c .depths) → Placed (c′ .depths)
 
 -- of the buffer: the bytes written stand at its start, and the rest is as it was
 abbrev pub bufferBy : H.Answer → List ℕ → List ℕ
@@ -127,7 +142,7 @@ countsOfDrain c (Drained·Refused n) = c
 
 -- Clear gives the fresh engine over any stores of listed size.
 abbrev pub ClearsTo : Tables → Mem → Changed → Tables → Mem → Type 0
-ClearsTo g m (Changed·Done c) g′ m′ = (stateIn c g′ m′ ≡ St.fresh) × (lent c g′ m′ ≡ true) × Stands c g′
+ClearsTo g m (Changed·Done c) g′ m′ = (stateIn c g′ m′ ≡ St.fresh) × (lent c g′ m′ ≡ true) × Stands c g′ × Placed (c .depths)
 ClearsTo g m (Changed·Refused n) g′ m′ = (n ≡ 33) × (g′ ≡ g) × (m′ ≡ m)
 
 pub record Clears (g : Tables) (m : Mem) (r : Changed) (g′ : Tables) (m′ : Mem) : Type 0 where

@@ -59,7 +59,7 @@ module _ (g : Tables) (m : Mem) where
         output = omega arith;
       }) in
       subst (λ (y : Counts). Clears g m (Changed·Done y) g m′) (sym q) (record {
-        told = (fresh, right, fresh-sound (storesOf g));
+        told = (fresh, right, fresh-sound (storesOf g), record { place = λ f. refl });
         asked = λ f. absurd (false≢true (sym f ∙ e));
         granted = λ f n q. cleared-not (freshCounts z) n q;
       })

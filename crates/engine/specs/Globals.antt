@@ -68,7 +68,7 @@ module _ {c : Counts} {g : Tables} {m : Mem} (e : Lent c g m) (name : List ℕ) 
         put (Went z k) {w} {t} l f =
             let goes : out (H.makes (H.setGlobal name v)) (stateIn c g m) ≡ went (stateIn (withStored z k c) g (memStored w t m)) = f .goes rest next ∙ out-next _ in
             let p = comes-went (H.setGlobal name v) (stateIn c g m) none-asked _ goes in
-            called-done e refl (ap (λ (x : H.Called). x .answer) (p .0), ap (λ (x : H.Called). x .after) (p .0) ∙ p .1) (lent-stored t e (f .ready .0) (f .ready .1) l) (λ s. s)
+            called-done e refl (ap (λ (x : H.Called). x .answer) (p .0), ap (λ (x : H.Called). x .after) (p .0) ∙ p .1) (lent-stored t e (f .ready .0) (f .ready .1) l) (λ s. s) (λ z. z)
 
         -- the name is given in a buffer, of which it is all
         pub set-put : {r : Placed} {w t : List ℕ} {x : Changed} → Puts (A.putGlobal (take (length name) name) v) (c .sizes) (m .heap) (c .text) (m .text) r w t → x ≡ settled c r
@@ -85,4 +85,4 @@ module _ {c : Counts} {g : Tables} {m : Mem} (e : Lent c g m) (name : List ℕ) 
       → Called (H.readGlobal name) c g m (H.valued (valueOf v)) c g m
   read-value v p f =
       let z = comes-went (H.readGlobal name) (stateIn c g m) (ap (λ (x : Bool). H.ask 29 x none) p) (stateIn c g m) (out-next (stateIn c g m)) in
-      called-done e refl (ap (λ (x : H.Called). x .answer) (z .0) ∙ ap H.valued (sym (f (bytesOf (g .code) (c .code)))), ap (λ (x : H.Called). x .after) (z .0) ∙ z .1) (e .right) (λ s. s)
+      called-done e refl (ap (λ (x : H.Called). x .answer) (z .0) ∙ ap H.valued (sym (f (bytesOf (g .code) (c .code)))), ap (λ (x : H.Called). x .after) (z .0) ∙ z .1) (e .right) (λ s. s) (λ z. z)

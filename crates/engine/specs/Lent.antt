@@ -21,7 +21,7 @@ use Rattle.image.specs.View.{list, imageAt, imagesOf}
 use Rattle.heapops.specs.declared.Counts.{Counts}
 use Rattle.heapops.specs.Turns.{Mem, mem}
 use Rattle.finish.specs.Parts.{Tables}
-use Rattle.run.specs.Runs.{Whole, groundOf, whole-sized, whole-use}
+use Rattle.run.specs.Runs.{Whole, groundOf, stateIn, whole-sized, whole-use}
 use Rattle.engine.specs.Calls.{sizesRight, countsRight, lent, Called, Buffered}
 
 -- tests that hold together
@@ -230,11 +230,14 @@ module _ {c : Counts} {g : Tables} {m : Mem} where
   lent-if p q = record { right = sym p ∙ q }
 
   pub not-lent : {call : H.Call} {x : Bool} → x ≡ lent c g m → x ≡ false → Called call c g m (H.refusal 33) c g m
-  not-lent p q = record {
-    machine = λ f s u. absurd (false≢true (sym q ∙ p ∙ f));
-    unlent = λ f. refl;
+  not-lent {call} p q = record {
+    machine = λ r. (
+      ap (λ (b : Bool). H.performOn b call (stateIn c g m) .answer) (sym p ∙ q),
+      ap (λ (b : Bool). H.performOn b call (stateIn c g m) .after) (sym p ∙ q),
+    );
     refused = λ n f. (refl, refl, refl);
     stands = λ f s. absurd (false≢true (sym q ∙ p ∙ f));
+    placed = λ z. z;
   }
 
   -- of a call that has a buffer

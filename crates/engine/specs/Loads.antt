@@ -26,7 +26,7 @@ use Rattle.finish.specs.Parts.{Tables}
 use Rattle.run.specs.Runs.{stateIn}
 use Rattle.engine.specs.Calls.{lent, storesOf, imageCounts, Stands, Called}
 use Rattle.engine.specs.Lent.{Lent, lent-sizes, lent-lengths, lent-within, lent-by}
-use Rattle.engine.specs.Performs.{Comes}
+use Rattle.engine.specs.Performs.{Comes, comes-lent}
 
 first : (a b c d e : Bool) → (a && b && c && d && e) ≡ true → a ≡ true
 first true b c d e p = refl
@@ -82,10 +82,10 @@ module _ {c : Counts} {g g′ : Tables} {m : Mem} {bs : List ℕ} {r : Loaded} (
       let l = loads h in
       let same : g′ ≡ g = ap tablesOf (l .leaves) in
       record {
-        machine = λ t s u. called c g g′ m bs (Refused q) l e s;
-        unlent = λ f. absurd (false≢true (sym f ∙ e .right));
+        machine = λ r. comes-lent (H.load bs) e (called c g g′ m bs (Refused q) l e (r (e .right)));
         refused = λ n f. (refl, same, refl);
         stands = λ t s. (ap (λ (x : Tables). lent c x m) same ∙ t, l .sound s);
+        placed = λ z. z;
       }
 
   -- It is accepted.
@@ -114,8 +114,8 @@ module _ {c : Counts} {g g′ : Tables} {m : Mem} {bs : List ℕ} {r : Loaded} (
         output = y .output;
       }) in
       record {
-        machine = λ t s u. called c g g′ m bs (Done i d) l e s;
-        unlent = λ f. absurd (false≢true (sym f ∙ e .right));
+        machine = λ r. comes-lent (H.load bs) e (called c g g′ m bs (Done i d) l e (r (e .right)));
         refused = λ n f. (cc, cc, refl);
         stands = λ t s. (right, l .sound s);
+        placed = λ z. z;
       }

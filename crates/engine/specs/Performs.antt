@@ -9,12 +9,11 @@ use Rattle.machine.specs.Program as P
 use Rattle.machine.specs.Program.{exec}
 use Rattle.machine.specs.Out.{outOf, went, ended, refused, out}
 use Rattle.machine.specs.Host as H
-use Rattle.machine.proofs.Unique.{Unique}
 use Rattle.heapops.specs.declared.Counts.{Counts}
 use Rattle.heapops.specs.Turns.{Mem}
 use Rattle.finish.specs.Parts.{Tables}
-use Rattle.run.specs.Runs.{stateIn}
-use Rattle.engine.specs.Calls.{lent, Stands, Called}
+use Rattle.run.specs.Runs.{stateIn, Placed}
+use Rattle.engine.specs.Calls.{lent, Stands, Rests, performed, Called}
 use Rattle.engine.specs.Lent.{Lent}
 
 module _ (h : P.How) (t : St.State) where
@@ -89,15 +88,23 @@ is-refusal (H.valued v) = false
 is-refusal (H.ran e n) = false
 is-refusal (H.wrote bs) = false
 
+-- The machine's call, over what is lent
+pub comes-lent : (call : H.Call) {c : Counts} {g : Tables} {m : Mem} {a : H.Answer} {t : St.State} → Lent c g m → Comes call (stateIn c g m) a t
+    → (performed call c g m .answer ≡ a) × (performed call c g m .after ≡ t)
+comes-lent call {c} {g} {m} e p = (
+  ap (λ (b : Bool). H.performOn b call (stateIn c g m) .answer) (e .right) ∙ p .0,
+  ap (λ (b : Bool). H.performOn b call (stateIn c g m) .after) (e .right) ∙ p .1,
+)
+
 -- The contract, over what is lent
 module _ {call : H.Call} {c : Counts} {g : Tables} {m : Mem} (e : Lent c g m) where
   -- of a call that is refused
   pub called-refused : {n : ℕ} {m′ : Mem} → m′ ≡ m → Comes call (stateIn c g m) (H.refusal n) (stateIn c g m) → Called call c g m (H.refusal n) c g m′
   called-refused q p = record {
-    machine = λ f s u. (p .0, p .1 ∙ sym (ap (λ (x : Mem). stateIn c g x) q));
-    unlent = λ f. absurd (false≢true (sym f ∙ e .right));
+    machine = λ r. comes-lent call e (p .0, p .1 ∙ sym (ap (λ (x : Mem). stateIn c g x) q));
     refused = λ n u. (refl, refl, q);
     stands = λ f s. (subst (λ (x : Mem). lent c g x ≡ true) (sym q) (e .right), s);
+    placed = λ z. z;
   }
 
   pub called-no : {n : ℕ} → H.questions call (stateIn c g m) ≡ some n → Called call c g m (H.refusal n) c g m
@@ -108,15 +115,15 @@ module _ {call : H.Call} {c : Counts} {g : Tables} {m : Mem} (e : Lent c g m) wh
   called-full q k f u v = let p = comes-full call (stateIn c g m) k q f in called-refused v (p .0 ∙ ap H.refusal (sym u), p .1)
 
   -- and of one that is accepted
-  pub called-sure : {a : H.Answer} {c′ : Counts} {g′ : Tables} {m′ : Mem} → is-refusal a ≡ false → (Unique (stateIn c g m) → Comes call (stateIn c g m) a (stateIn c′ g′ m′))
-      → lent c′ g′ m′ ≡ true → (Stands c g → Stands c′ g′) → Called call c g m a c′ g′ m′
-  called-sure h p l s = record {
-    machine = λ f k u. p u;
-    unlent = λ f. absurd (false≢true (sym f ∙ e .right));
+  pub called-sure : {a : H.Answer} {c′ : Counts} {g′ : Tables} {m′ : Mem} → is-refusal a ≡ false → (Rests call c g m → Comes call (stateIn c g m) a (stateIn c′ g′ m′))
+      → lent c′ g′ m′ ≡ true → (Stands c g → Stands c′ g′) → (Placed (c .depths) → Placed (c′ .depths)) → Called call c g m a c′ g′ m′
+  called-sure h p l s z = record {
+    machine = λ r. comes-lent call e (p (r (e .right)));
     refused = λ n u. absurd (false≢true (sym h ∙ ap is-refusal u));
     stands = λ f k. (l, s k);
+    placed = z;
   }
 
   pub called-done : {a : H.Answer} {c′ : Counts} {g′ : Tables} {m′ : Mem} → is-refusal a ≡ false → Comes call (stateIn c g m) a (stateIn c′ g′ m′)
-      → lent c′ g′ m′ ≡ true → (Stands c g → Stands c′ g′) → Called call c g m a c′ g′ m′
-  called-done h p l s = called-sure h (λ u. p) l s
+      → lent c′ g′ m′ ≡ true → (Stands c g → Stands c′ g′) → (Placed (c .depths) → Placed (c′ .depths)) → Called call c g m a c′ g′ m′
+  called-done h p l s z = called-sure h (λ u. p) l s z

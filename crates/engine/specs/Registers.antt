@@ -85,7 +85,7 @@ module _ {c : Counts} {g : Tables} {m : Mem} (i t : ℕ) (e : Lent c g m) where
             let p = comes-went (H.register i t) (stateIn c g m) none-asked _ goes in
             called-done e refl
             (ap (λ (x : H.Called). x .answer) (p .0) ∙ ap H.numbered (row-length (c .sizes .functions) (λ j. functionAt (m .heap) (0 + 2 * j))), ap (λ (x : H.Called). x .after) (p .0) ∙ p .1)
-            (lent-stored (m .text) e (f .ready) (lent-within e .text) refl) (λ s. s)
+            (lent-stored (m .text) e (f .ready) (lent-within e .text) refl) (λ s. s) (λ z. z)
 
         pub register-added : {r : Grown} {w : List ℕ} {x : Numbered} → Grows (A.addFunction i t) (c .sizes) (m .heap) r w → x ≡ added c r
             → Called (H.register i t) c g m (answerOfNumbered x) (countsOfNumbered c x) g (memStored w (m .text) m)

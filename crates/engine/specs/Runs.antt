@@ -149,7 +149,7 @@ module _ {c : Counts} {g : Tables} {m : Mem} (i : ℕ) (e : Lent c g m) where
           (subst (λ (n : ℕ). ranOf x (withDepths d c) g m′ ≡ runOf n 0 (stateIn (withDepths d c) g (withStacks w m))) (sym limit-is) (t (unique-begun i (stateIn c g m) _ goes z))) in
           let ic : imageCounts (x .counts) ≡ imageCounts c = ap (λ (n : ℕ). record { code = n; images = x .counts .images }) (l .code) ∙ ap (λ (n : ℕ). record { code = c .code; images = n }) (l .images) in
           called-sure e refl (λ z. (p z .0, p z .1 ∙ sym (ap (λ (y : ImageCounts). stateOf (x .counts) m′ (ground-of y g)) ic)))
-          (lent-again e l refl refl) (λ s. subst (λ (y : ImageCounts). Sound (storesOf g) y) (sym ic) s)
+          (lent-again e l refl refl) (λ s. subst (λ (y : ImageCounts). Sound (storesOf g) y) (sym ic) s) (λ z. l .placed)
 
       pub start-ran : {a : Counts} (x : Ran) {m′ : Mem} → a ≡ withDepths d c → (Unique (stateIn a g (withStacks w m)) → ranOf x a g m′ ≡ runOf 100000 0 (stateIn a g (withStacks w m))) → Leaves a (x .counts) g m′
           → Called (H.run i) c g m (H.ran (resultOf (x .end)) (x .steps)) (x .counts) g m′

@@ -121,7 +121,7 @@ module _ {c : Counts} {g : Tables} {m : Mem} (e : Lent c g m) where
         let s = fitted f q in
         let h : leb (length (bytesOf (m .output) (c .output))) (length b) ≡ true = rw output-in-use (s .room) in
         let t : bytesOf (m .output) (c .output) ≡ bytesOf b′ k = output-in-use ∙ sym (fitted-start s) in (
-          called-done e refl (rw h (ap H.wrote t), rw h (ap (λ (o : List ℕ). Fi.setOutput o (stateIn c g m)) (sym (row-none (λ i. getD (m .output) i 0))))) lent-emptied (λ d. d),
+          called-done e refl (rw h (ap H.wrote t), rw h (ap (λ (o : List ℕ). Fi.setOutput o (stateIn c g m)) (sym (row-none (λ i. getD (m .output) i 0))))) lent-emptied (λ d. d) (λ z. z),
           fitted-buffer s,
         )
 
@@ -152,6 +152,6 @@ module _ {c : Counts} {g : Tables} {m : Mem} (e : Lent c g m) where
           text-bytes k h =
               let s = fitted t h in
               let z = comes-went (H.text v (length b)) (stateIn c g m) (asked (length b) (s .room)) (stateIn c g m) (out-next (stateIn c g m)) in (
-                called-done e refl (ap (λ (x : H.Called). x .answer) (z .0) ∙ ap H.wrote (sym (fitted-start s)), ap (λ (x : H.Called). x .after) (z .0) ∙ z .1) (e .right) (λ d. d),
+                called-done e refl (ap (λ (x : H.Called). x .answer) (z .0) ∙ ap H.wrote (sym (fitted-start s)), ap (λ (x : H.Called). x .after) (z .0) ∙ z .1) (e .right) (λ d. d) (λ z. z),
                 fitted-buffer s,
               )
