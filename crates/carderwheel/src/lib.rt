@@ -1,5 +1,9 @@
 //! The C face of the host calls: the stores as slices, the counts by value, and one flat answer a shape. include/carderwheel.h gives them one struct.
+use answers::Answer;
+use answers::RunTold;
+use answers::ValueAnswer;
 use answers::changed;
+use answers::decoded;
 use answers::drained;
 use answers::numbered;
 use answers::ran;
@@ -13,35 +17,7 @@ ghost use Rattle.machine.specs.Act.{plain, asBytes};
 ghost use Rattle.heapops.specs.Turns.{mem};
 ghost use Rattle.finish.specs.Parts.{tables};
 ghost use Rattle.engine.specs.Calls.{Buffered};
-ghost use Rattle.carderwheel.specs.Flat.{Tells, TellsValue, TellsRun, TellsClear, numberedBy, changedBy, wroteBy, valueBy};
-
-mod answers;
-
-// A call's number, 0 where it was accepted; an image's number or the bytes written; and what is in use then.
-#[repr(C)]
-pub struct Answer {
-    pub number: u64,
-    pub amount: usize,
-    pub counts: Counts,
-}
-
-// A value, where the number is 0.
-#[repr(C)]
-pub struct ValueAnswer {
-    pub number: u64,
-    pub value: Words,
-}
-
-// Of a run that started (1) the number is how it ended, else (0) the refused call's.
-#[repr(C)]
-pub struct RunTold {
-    pub number: u64,
-    pub started: u64,
-    pub steps: usize,
-    pub opcode: u64,
-    pub value: Words,
-    pub counts: Counts,
-}
+ghost use Rattle.answers.specs.Flat.{Tells, TellsValue, TellsRun, TellsClear, numberedBy, changedBy, wroteBy, valueBy};
 
 #[no_mangle]
 pub extern "C" fn carderwheel_clear_in(
@@ -139,7 +115,7 @@ pub extern "C" fn carderwheel_set_global_in(
 ) -> Answer
     ensures { λ r. ⌜ Tells (Host.setGlobal (now (name .entry)) (plain (valueBy value))) counts (tables (now (code .entry)) (now (places .entry)) (now (rows .entry)) (now (starts .entry))) (mem (now (stacks .entry)) (now (heap .entry)) (now (text .entry)) (now (output .entry))) (changedBy r) r (tables (now (code .entry)) (now (places .entry)) (now (rows .entry)) (now (starts .entry))) (mem (now (stacks .entry)) (now (heap .exit)) (now (text .exit)) (now (output .entry))) ⌝ }
 {
-    let v = value::decode(value.kind, value.first, value.second);
+    let v = decoded(value);
     let x = engine::globals::set_global(
         code,
         places,
@@ -265,7 +241,7 @@ pub extern "C" fn carderwheel_text_in<'a>(
     ensures { λ r. ⌜ Tells (Host.text (plain (valueBy value)) (length (now (buffer .entry)))) counts (tables (now (code .entry)) (now (places .entry)) (now (rows .entry)) (now (starts .entry))) (mem (now (stacks .entry)) (now (heap .entry)) (now (text .entry)) (now (output .entry))) (wroteBy r (now (buffer .exit))) r (tables (now (code .entry)) (now (places .entry)) (now (rows .entry)) (now (starts .entry))) (mem (now (stacks .entry)) (now (heap .entry)) (now (text .entry)) (now (output .entry))) ⌝ }
     ensures { λ r. ⌜ Buffered (wroteBy r (now (buffer .exit))) (now (buffer .entry)) (now (buffer .exit)) ⌝ }
 {
-    let v = value::decode(value.kind, value.first, value.second);
+    let v = decoded(value);
     let x = engine::buffers::text_of(
         code,
         places,

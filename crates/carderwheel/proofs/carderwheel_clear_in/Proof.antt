@@ -1,10 +1,10 @@
 use borrow.Author.Needs.{needs}
-use Rattle.carderwheel.specs.Flat.{clear-told}
+use Rattle.answers.specs.Flat.{clear-told}
 use Rattle.carderwheel.proofs.carderwheel_clear_in.Statement.{statement}
 use Rattle.carderwheel.proofs.carderwheel_clear_in.Tie as tie
 use Rattle.carderwheel.proofs.carderwheel_clear_in.Reads as reads
 use Rattle.carderwheel.proofs.carderwheel_clear_in.Lts as lts
-use Rattle.carderwheel.proofs.answers.changed.Reads as changed-reads
+use Rattle.answers.proofs.changed.Reads as changed-reads
 use Rattle.engine.proofs.clear.Reads as clear-reads
 
 clear-requires : tie.Need-clear-requires

@@ -1,10 +1,10 @@
 use borrow.Author.Needs.{needs}
-use Rattle.carderwheel.specs.Flat.{drain-told}
+use Rattle.answers.specs.Flat.{drain-told}
 use Rattle.carderwheel.proofs.carderwheel_drain_in.Statement.{statement}
 use Rattle.carderwheel.proofs.carderwheel_drain_in.Tie as tie
 use Rattle.carderwheel.proofs.carderwheel_drain_in.Reads as reads
 use Rattle.carderwheel.proofs.carderwheel_drain_in.Lts as lts
-use Rattle.carderwheel.proofs.answers.drained.Reads as drained-reads
+use Rattle.answers.proofs.drained.Reads as drained-reads
 use Rattle.engine.proofs.buffers.drain.Reads as drain-reads
 
 drain-requires : tie.Need-drain-requires

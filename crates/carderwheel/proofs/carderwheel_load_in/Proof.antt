@@ -1,10 +1,10 @@
 use borrow.Author.Needs.{needs}
-use Rattle.carderwheel.specs.Flat.{numbered-told}
+use Rattle.answers.specs.Flat.{numbered-told}
 use Rattle.carderwheel.proofs.carderwheel_load_in.Statement.{statement}
 use Rattle.carderwheel.proofs.carderwheel_load_in.Tie as tie
 use Rattle.carderwheel.proofs.carderwheel_load_in.Reads as reads
 use Rattle.carderwheel.proofs.carderwheel_load_in.Lts as lts
-use Rattle.carderwheel.proofs.answers.numbered.Reads as numbered-reads
+use Rattle.answers.proofs.numbered.Reads as numbered-reads
 use Rattle.engine.proofs.images.load.Reads as load-reads
 
 load-requires : tie.Need-load-requires

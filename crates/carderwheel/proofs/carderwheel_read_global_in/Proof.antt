@@ -1,10 +1,10 @@
 use borrow.Author.Needs.{needs}
-use Rattle.carderwheel.specs.Flat.{read-told}
+use Rattle.answers.specs.Flat.{read-told}
 use Rattle.carderwheel.proofs.carderwheel_read_global_in.Statement.{statement}
 use Rattle.carderwheel.proofs.carderwheel_read_global_in.Tie as tie
 use Rattle.carderwheel.proofs.carderwheel_read_global_in.Reads as reads
 use Rattle.carderwheel.proofs.carderwheel_read_global_in.Lts as lts
-use Rattle.carderwheel.proofs.answers.valued.Reads as valued-reads
+use Rattle.answers.proofs.valued.Reads as valued-reads
 use Rattle.engine.proofs.globals.read_global.Reads as read-global-reads
 
 read-global-requires : tie.Need-read-global-requires

@@ -1,10 +1,10 @@
 use borrow.Author.Needs.{needs}
-use Rattle.carderwheel.specs.Flat.{run-told}
+use Rattle.answers.specs.Flat.{run-told}
 use Rattle.carderwheel.proofs.carderwheel_run_in.Statement.{statement}
 use Rattle.carderwheel.proofs.carderwheel_run_in.Tie as tie
 use Rattle.carderwheel.proofs.carderwheel_run_in.Reads as reads
 use Rattle.carderwheel.proofs.carderwheel_run_in.Lts as lts
-use Rattle.carderwheel.proofs.answers.ran.Reads as ran-reads
+use Rattle.answers.proofs.ran.Reads as ran-reads
 use Rattle.engine.proofs.runs.run.Reads as run-reads
 
 run-requires : tie.Need-run-requires

@@ -1,10 +1,10 @@
 use borrow.Author.Needs.{needs}
-use Rattle.carderwheel.specs.Flat.{changed-told}
+use Rattle.answers.specs.Flat.{changed-told}
 use Rattle.carderwheel.proofs.carderwheel_set_global_text_in.Statement.{statement}
 use Rattle.carderwheel.proofs.carderwheel_set_global_text_in.Tie as tie
 use Rattle.carderwheel.proofs.carderwheel_set_global_text_in.Reads as reads
 use Rattle.carderwheel.proofs.carderwheel_set_global_text_in.Lts as lts
-use Rattle.carderwheel.proofs.answers.changed.Reads as changed-reads
+use Rattle.answers.proofs.changed.Reads as changed-reads
 use Rattle.engine.proofs.globals.set_global_text.Reads as set-global-text-reads
 
 set-global-text-requires : tie.Need-set-global-text-requires

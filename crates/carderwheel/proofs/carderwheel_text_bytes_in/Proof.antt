@@ -1,10 +1,10 @@
 use borrow.Author.Needs.{needs}
-use Rattle.carderwheel.specs.Flat.{text-told}
+use Rattle.answers.specs.Flat.{text-told}
 use Rattle.carderwheel.proofs.carderwheel_text_bytes_in.Statement.{statement}
 use Rattle.carderwheel.proofs.carderwheel_text_bytes_in.Tie as tie
 use Rattle.carderwheel.proofs.carderwheel_text_bytes_in.Reads as reads
 use Rattle.carderwheel.proofs.carderwheel_text_bytes_in.Lts as lts
-use Rattle.carderwheel.proofs.answers.wrote.Reads as wrote-reads
+use Rattle.answers.proofs.wrote.Reads as wrote-reads
 use Rattle.engine.proofs.buffers.text_of_bytes.Reads as text-of-bytes-reads
 
 text-of-bytes-requires : tie.Need-text-of-bytes-requires

@@ -1,10 +1,10 @@
 use borrow.Author.Needs.{needs}
-use Rattle.carderwheel.proofs.answers.numbered.Statement.{statement}
-use Rattle.carderwheel.proofs.answers.numbered.Tie as tie
-use Rattle.carderwheel.proofs.answers.numbered.Reads as reads
-use Rattle.carderwheel.proofs.answers.numbered.Lts as lts
-use Rattle.carderwheel.proofs.answers.accepted.Reads as accepted-reads
-use Rattle.carderwheel.proofs.answers.refused.Reads as refused-reads
+use Rattle.answers.proofs.changed.Statement.{statement}
+use Rattle.answers.proofs.changed.Tie as tie
+use Rattle.answers.proofs.changed.Reads as reads
+use Rattle.answers.proofs.changed.Lts as lts
+use Rattle.answers.proofs.accepted.Reads as accepted-reads
+use Rattle.answers.proofs.refused.Reads as refused-reads
 
 enum-known-x : tie.Need-enum-known-x
 enum-known-x c = search needs
@@ -24,7 +24,7 @@ returns c = rw (c .before .before .x .given .1) (c .accepted .ensures)
 returns-2 : tie.Need-returns-2
 returns-2 c = rw (c .before .before .x2 .given .1) (c .refused .ensures)
 
-pub numbered-spec : {M : Type 1} → statement M
-numbered-spec =
+pub changed-spec : {M : Type 1} → statement M
+changed-spec =
     tie.close
     (tie.spec enum-known-x accepted-requires enum-known-x-2 refused-requires returns returns-2)

@@ -1,10 +1,10 @@
 use borrow.Author.Needs.{needs}
-use Rattle.carderwheel.proofs.answers.drained.Statement.{statement}
-use Rattle.carderwheel.proofs.answers.drained.Tie as tie
-use Rattle.carderwheel.proofs.answers.drained.Reads as reads
-use Rattle.carderwheel.proofs.answers.drained.Lts as lts
-use Rattle.carderwheel.proofs.answers.accepted.Reads as accepted-reads
-use Rattle.carderwheel.proofs.answers.refused.Reads as refused-reads
+use Rattle.answers.proofs.drained.Statement.{statement}
+use Rattle.answers.proofs.drained.Tie as tie
+use Rattle.answers.proofs.drained.Reads as reads
+use Rattle.answers.proofs.drained.Lts as lts
+use Rattle.answers.proofs.accepted.Reads as accepted-reads
+use Rattle.answers.proofs.refused.Reads as refused-reads
 
 enum-known-x : tie.Need-enum-known-x
 enum-known-x c = search needs

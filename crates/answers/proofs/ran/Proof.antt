@@ -1,10 +1,10 @@
 use borrow.Author.Needs.{needs}
 use mathlib.Core.Path.{refl}
-use Rattle.carderwheel.proofs.answers.ran.Statement.{statement}
-use Rattle.carderwheel.proofs.answers.ran.Tie as tie
-use Rattle.carderwheel.proofs.answers.ran.Reads as reads
-use Rattle.carderwheel.proofs.answers.ran.Lts as lts
-use Rattle.carderwheel.proofs.answers.started.Reads as started-reads
+use Rattle.answers.proofs.ran.Statement.{statement}
+use Rattle.answers.proofs.ran.Tie as tie
+use Rattle.answers.proofs.ran.Reads as reads
+use Rattle.answers.proofs.ran.Lts as lts
+use Rattle.answers.proofs.started.Reads as started-reads
 use Rattle.value.proofs.encode.Reads as encode-reads
 
 enum-known-x : tie.Need-enum-known-x

@@ -32,10 +32,10 @@ use Rattle.engine.specs.declared.Wrote.{Wrote}
 use Rattle.engine.specs.declared.Wrote.the-variants.{Bytes as Wrote·Bytes, Refused as Wrote·Refused}
 use Rattle.engine.specs.declared.Drained.{Drained}
 use Rattle.engine.specs.declared.Drained.the-variants.{Bytes as Drained·Bytes, Refused as Drained·Refused}
-use Rattle.carderwheel.specs.declared.Answer.{Answer}
-use Rattle.carderwheel.specs.declared.ValueAnswer.{ValueAnswer}
-use Rattle.carderwheel.specs.declared.RunTold.{RunTold}
-use Rattle.carderwheel.specs.Numbers.{IsSome, never-0}
+use Rattle.answers.specs.declared.Answer.{Answer}
+use Rattle.answers.specs.declared.ValueAnswer.{ValueAnswer}
+use Rattle.answers.specs.declared.RunTold.{RunTold}
+use Rattle.answers.specs.Numbers.{IsSome, never-0}
 
 -- WHAT IS TOLD
 

@@ -1,7 +1,4 @@
-//! What the face is told of the engine's answers.
-use crate::Answer;
-use crate::RunTold;
-use crate::ValueAnswer;
+//! What C is told of the engine's answers: one flat struct a shape, and values as three words.
 use engine::Changed;
 use engine::Drained;
 use engine::GlobalRead;
@@ -17,11 +14,45 @@ use value::Words;
 ghost use mathlib.Core.Path.{_≡_};
 ghost use Rattle.machine.specs.Host as Host;
 ghost use Rattle.value.specs.Errors.{errorOf};
+ghost use Rattle.value.specs.Words.{valueOf};
 ghost use Rattle.run.specs.Runs.{resultOf};
 ghost use Rattle.engine.specs.Calls.{answerOfNumbered, countsOfNumbered, answerOfChanged, countsOfChanged, answerOfRead, answerOfRun, countsOfRun};
-ghost use Rattle.carderwheel.specs.Flat.{answer, told, toldValue, toldRun, flatText, flatDrain, errorOpcode, opcodeOf};
+ghost use Rattle.answers.specs.Flat.{answer, told, toldValue, toldRun, flatText, flatDrain, errorOpcode, opcodeOf, valueBy};
 
-pub(crate) fn changed(counts: Counts, x: Changed) -> Answer
+// A call's number, 0 where it was accepted; an image's number or the bytes written; and what is in use then.
+#[repr(C)]
+pub struct Answer {
+    pub number: u64,
+    pub amount: usize,
+    pub counts: Counts,
+}
+
+// A value, where the number is 0.
+#[repr(C)]
+pub struct ValueAnswer {
+    pub number: u64,
+    pub value: Words,
+}
+
+// Of a run that started (1) the number is how it ended, else (0) the refused call's.
+#[repr(C)]
+pub struct RunTold {
+    pub number: u64,
+    pub started: u64,
+    pub steps: usize,
+    pub opcode: u64,
+    pub value: Words,
+    pub counts: Counts,
+}
+
+// A value that C gives, by its words.
+pub fn decoded(w: Words) -> Value
+    ensures { λ r. ⌜ valueOf r ≡ valueBy w ⌝ }
+{
+    value::decode(w.kind, w.first, w.second)
+}
+
+pub fn changed(counts: Counts, x: Changed) -> Answer
     ensures { λ r. ⌜ r ≡ told (answerOfChanged x) (countsOfChanged counts x) ⌝ }
 {
     match x {
@@ -30,7 +61,7 @@ pub(crate) fn changed(counts: Counts, x: Changed) -> Answer
     }
 }
 
-pub(crate) fn numbered(counts: Counts, x: Numbered) -> Answer
+pub fn numbered(counts: Counts, x: Numbered) -> Answer
     ensures { λ r. ⌜ r ≡ told (answerOfNumbered x) (countsOfNumbered counts x) ⌝ }
 {
     match x {
@@ -39,7 +70,7 @@ pub(crate) fn numbered(counts: Counts, x: Numbered) -> Answer
     }
 }
 
-pub(crate) fn wrote(counts: Counts, x: Wrote) -> Answer
+pub fn wrote(counts: Counts, x: Wrote) -> Answer
     ensures { λ r. ⌜ r ≡ flatText counts x ⌝ }
 {
     match x {
@@ -48,7 +79,7 @@ pub(crate) fn wrote(counts: Counts, x: Wrote) -> Answer
     }
 }
 
-pub(crate) fn drained(counts: Counts, x: Drained) -> Answer
+pub fn drained(counts: Counts, x: Drained) -> Answer
     ensures { λ r. ⌜ r ≡ flatDrain counts x ⌝ }
 {
     match x {
@@ -77,7 +108,7 @@ fn refused(n: u64, counts: Counts) -> Answer
     }
 }
 
-pub(crate) fn valued(x: GlobalRead) -> ValueAnswer
+pub fn valued(x: GlobalRead) -> ValueAnswer
     ensures { λ r. ⌜ r ≡ toldValue (answerOfRead x) ⌝ }
 {
     match x {
@@ -92,7 +123,7 @@ pub(crate) fn valued(x: GlobalRead) -> ValueAnswer
     }
 }
 
-pub(crate) fn ran(counts: Counts, x: RunAnswer) -> RunTold
+pub fn ran(counts: Counts, x: RunAnswer) -> RunTold
     ensures { λ r. ⌜ r ≡ toldRun (answerOfRun x) (countsOfRun counts x) ⌝ }
 {
     match x {

@@ -1,11 +1,11 @@
 use borrow.Author.Needs.{needs}
 use Rattle.run.specs.Runs.{resultOf}
-use Rattle.carderwheel.specs.Flat.{ran-fields}
-use Rattle.carderwheel.proofs.answers.started.Statement.{statement}
-use Rattle.carderwheel.proofs.answers.started.Tie as tie
-use Rattle.carderwheel.proofs.answers.started.Reads as reads
-use Rattle.carderwheel.proofs.answers.started.Lts as lts
-use Rattle.carderwheel.proofs.answers.opcode_in.Reads as opcode-in-reads
+use Rattle.answers.specs.Flat.{ran-fields}
+use Rattle.answers.proofs.started.Statement.{statement}
+use Rattle.answers.proofs.started.Tie as tie
+use Rattle.answers.proofs.started.Reads as reads
+use Rattle.answers.proofs.started.Lts as lts
+use Rattle.answers.proofs.opcode_in.Reads as opcode-in-reads
 use Rattle.run.proofs.end_number.Reads as end-number-reads
 use Rattle.run.proofs.end_value.Reads as end-value-reads
 use Rattle.value.proofs.encode.Reads as encode-reads

@@ -1,10 +1,10 @@
 use borrow.Author.Needs.{needs}
 use mathlib.Core.Path.{refl, _∙_}
-use Rattle.carderwheel.specs.Flat.{words-in, value-fields}
-use Rattle.carderwheel.proofs.answers.valued.Statement.{statement}
-use Rattle.carderwheel.proofs.answers.valued.Tie as tie
-use Rattle.carderwheel.proofs.answers.valued.Reads as reads
-use Rattle.carderwheel.proofs.answers.valued.Lts as lts
+use Rattle.answers.specs.Flat.{words-in, value-fields}
+use Rattle.answers.proofs.valued.Statement.{statement}
+use Rattle.answers.proofs.valued.Tie as tie
+use Rattle.answers.proofs.valued.Reads as reads
+use Rattle.answers.proofs.valued.Lts as lts
 use Rattle.value.proofs.encode.Reads as encode-reads
 
 enum-known-x : tie.Need-enum-known-x
