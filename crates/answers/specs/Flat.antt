@@ -19,19 +19,19 @@ use Rattle.heapops.specs.declared.Counts.{Counts}
 use Rattle.heapops.specs.Turns.{Mem}
 use Rattle.finish.specs.Parts.{Tables}
 use Rattle.run.specs.Runs.{stateIn, resultOf}
-use Rattle.engine.specs.Calls.{lent, Called, Clears, Buffered, answerOfNumbered, countsOfNumbered, answerOfChanged, countsOfChanged, answerOfRead, answerOfRun, countsOfRun, answerOfText, answerOfDrain, countsOfDrain}
-use Rattle.engine.specs.declared.Changed.{Changed}
-use Rattle.engine.specs.declared.Changed.the-variants.{Done as Changed·Done, Refused as Changed·Refused}
-use Rattle.engine.specs.declared.Numbered.{Numbered}
-use Rattle.engine.specs.declared.Numbered.the-variants.{Done as Numbered·Done, Refused as Numbered·Refused}
-use Rattle.engine.specs.declared.GlobalRead.{GlobalRead}
-use Rattle.engine.specs.declared.GlobalRead.the-variants.{Valued as Read·Valued, Refused as Read·Refused}
-use Rattle.engine.specs.declared.RunAnswer.{RunAnswer}
-use Rattle.engine.specs.declared.RunAnswer.the-variants.{Ran as Run·Ran, Refused as Run·Refused}
-use Rattle.engine.specs.declared.Wrote.{Wrote}
-use Rattle.engine.specs.declared.Wrote.the-variants.{Bytes as Wrote·Bytes, Refused as Wrote·Refused}
-use Rattle.engine.specs.declared.Drained.{Drained}
-use Rattle.engine.specs.declared.Drained.the-variants.{Bytes as Drained·Bytes, Refused as Drained·Refused}
+use Rattle.host.specs.Calls.{lent, Called, Clears, Buffered, answerOfNumbered, countsOfNumbered, answerOfChanged, countsOfChanged, answerOfRead, answerOfRun, countsOfRun, answerOfText, answerOfDrain, countsOfDrain}
+use Rattle.host.specs.declared.Changed.{Changed}
+use Rattle.host.specs.declared.Changed.the-variants.{Done as Changed·Done, Refused as Changed·Refused}
+use Rattle.host.specs.declared.Numbered.{Numbered}
+use Rattle.host.specs.declared.Numbered.the-variants.{Done as Numbered·Done, Refused as Numbered·Refused}
+use Rattle.host.specs.declared.GlobalRead.{GlobalRead}
+use Rattle.host.specs.declared.GlobalRead.the-variants.{Valued as Read·Valued, Refused as Read·Refused}
+use Rattle.host.specs.declared.RunAnswer.{RunAnswer}
+use Rattle.host.specs.declared.RunAnswer.the-variants.{Ran as Run·Ran, Refused as Run·Refused}
+use Rattle.host.specs.declared.Wrote.{Wrote}
+use Rattle.host.specs.declared.Wrote.the-variants.{Bytes as Wrote·Bytes, Refused as Wrote·Refused}
+use Rattle.host.specs.declared.Drained.{Drained}
+use Rattle.host.specs.declared.Drained.the-variants.{Bytes as Drained·Bytes, Refused as Drained·Refused}
 use Rattle.answers.specs.declared.Answer.{Answer}
 use Rattle.answers.specs.declared.ValueAnswer.{ValueAnswer}
 use Rattle.answers.specs.declared.RunTold.{RunTold}

@@ -1,11 +1,11 @@
 //! What C is told of the engine's answers: one flat struct a shape, and values as three words.
-use engine::Changed;
-use engine::Drained;
-use engine::GlobalRead;
-use engine::Numbered;
-use engine::RunAnswer;
-use engine::Wrote;
 use heapops::Counts;
+use host::Changed;
+use host::Drained;
+use host::GlobalRead;
+use host::Numbered;
+use host::RunAnswer;
+use host::Wrote;
 use run::Ending;
 use run::Ran;
 use value::JsVmError;
@@ -16,7 +16,7 @@ ghost use Rattle.machine.specs.Host as Host;
 ghost use Rattle.value.specs.Errors.{errorOf};
 ghost use Rattle.value.specs.Words.{valueOf};
 ghost use Rattle.run.specs.Runs.{resultOf};
-ghost use Rattle.engine.specs.Calls.{answerOfNumbered, countsOfNumbered, answerOfChanged, countsOfChanged, answerOfRead, answerOfRun, countsOfRun};
+ghost use Rattle.host.specs.Calls.{answerOfNumbered, countsOfNumbered, answerOfChanged, countsOfChanged, answerOfRead, answerOfRun, countsOfRun};
 ghost use Rattle.answers.specs.Flat.{answer, told, toldValue, toldRun, flatText, flatDrain, errorOpcode, opcodeOf, valueBy};
 
 // A call's number, 0 where it was accepted; an image's number or the bytes written; and what is in use then.

@@ -16,7 +16,7 @@ ghost use Rattle.machine.specs.Host as Host;
 ghost use Rattle.machine.specs.Act.{plain, asBytes};
 ghost use Rattle.heapops.specs.Turns.{mem};
 ghost use Rattle.finish.specs.Parts.{tables};
-ghost use Rattle.engine.specs.Calls.{Buffered};
+ghost use Rattle.host.specs.Calls.{Buffered};
 ghost use Rattle.answers.specs.Flat.{Tells, TellsValue, TellsRun, TellsClear, numberedBy, changedBy, wroteBy, valueBy};
 
 #[no_mangle]
@@ -116,7 +116,7 @@ pub extern "C" fn carderwheel_set_global_in(
     ensures { λ r. ⌜ Tells (Host.setGlobal (now (name .entry)) (plain (valueBy value))) counts (tables (now (code .entry)) (now (places .entry)) (now (rows .entry)) (now (starts .entry))) (mem (now (stacks .entry)) (now (heap .entry)) (now (text .entry)) (now (output .entry))) (changedBy r) r (tables (now (code .entry)) (now (places .entry)) (now (rows .entry)) (now (starts .entry))) (mem (now (stacks .entry)) (now (heap .exit)) (now (text .exit)) (now (output .entry))) ⌝ }
 {
     let v = decoded(value);
-    let x = engine::globals::set_global(
+    let x = globals::set_global(
         code,
         places,
         rows,
@@ -148,7 +148,7 @@ pub extern "C" fn carderwheel_set_global_text_in(
 ) -> Answer
     ensures { λ r. ⌜ Tells (Host.setGlobal (now (name .entry)) (asBytes (now (given .entry)))) counts (tables (now (code .entry)) (now (places .entry)) (now (rows .entry)) (now (starts .entry))) (mem (now (stacks .entry)) (now (heap .entry)) (now (text .entry)) (now (output .entry))) (changedBy r) r (tables (now (code .entry)) (now (places .entry)) (now (rows .entry)) (now (starts .entry))) (mem (now (stacks .entry)) (now (heap .exit)) (now (text .exit)) (now (output .entry))) ⌝ }
 {
-    let x = engine::globals::set_global_text(
+    let x = globals::set_global_text(
         code,
         places,
         rows,
@@ -179,7 +179,7 @@ pub extern "C" fn carderwheel_read_global_in(
 ) -> ValueAnswer
     ensures { λ r. ⌜ TellsValue (Host.readGlobal (now (name .entry))) counts (tables (now (code .entry)) (now (places .entry)) (now (rows .entry)) (now (starts .entry))) (mem (now (stacks .entry)) (now (heap .entry)) (now (text .entry)) (now (output .entry))) r ⌝ }
 {
-    let x = engine::globals::read_global(
+    let x = globals::read_global(
         code,
         places,
         rows,
@@ -242,7 +242,7 @@ pub extern "C" fn carderwheel_text_in<'a>(
     ensures { λ r. ⌜ Buffered (wroteBy r (now (buffer .exit))) (now (buffer .entry)) (now (buffer .exit)) ⌝ }
 {
     let v = decoded(value);
-    let x = engine::buffers::text_of(
+    let x = buffers::text_of(
         code,
         places,
         rows,
@@ -275,7 +275,7 @@ pub extern "C" fn carderwheel_text_bytes_in(
     ensures { λ r. ⌜ Tells (Host.text (asBytes (now (given .entry))) (length (now (buffer .entry)))) counts (tables (now (code .entry)) (now (places .entry)) (now (rows .entry)) (now (starts .entry))) (mem (now (stacks .entry)) (now (heap .entry)) (now (text .entry)) (now (output .entry))) (wroteBy r (now (buffer .exit))) r (tables (now (code .entry)) (now (places .entry)) (now (rows .entry)) (now (starts .entry))) (mem (now (stacks .entry)) (now (heap .entry)) (now (text .entry)) (now (output .entry))) ⌝ }
     ensures { λ r. ⌜ Buffered (wroteBy r (now (buffer .exit))) (now (buffer .entry)) (now (buffer .exit)) ⌝ }
 {
-    let x = engine::buffers::text_of_bytes(
+    let x = buffers::text_of_bytes(
         code,
         places,
         rows,
@@ -307,7 +307,7 @@ pub extern "C" fn carderwheel_drain_in(
     ensures { λ r. ⌜ Tells (Host.drain (length (now (buffer .entry)))) counts (tables (now (code .entry)) (now (places .entry)) (now (rows .entry)) (now (starts .entry))) (mem (now (stacks .entry)) (now (heap .entry)) (now (text .entry)) (now (output .entry))) (wroteBy r (now (buffer .exit))) r (tables (now (code .entry)) (now (places .entry)) (now (rows .entry)) (now (starts .entry))) (mem (now (stacks .entry)) (now (heap .entry)) (now (text .entry)) (now (output .entry))) ⌝ }
     ensures { λ r. ⌜ Buffered (wroteBy r (now (buffer .exit))) (now (buffer .entry)) (now (buffer .exit)) ⌝ }
 {
-    let x = engine::buffers::drain(
+    let x = buffers::drain(
         code,
         places,
         rows,

@@ -16,10 +16,10 @@ use Rattle.heapops.specs.declared.Counts.{Counts}
 use Rattle.heapops.specs.Turns.{Mem, mem, below, freshCounts}
 use Rattle.finish.specs.Parts.{Tables}
 use Rattle.run.specs.Runs.{groundOf, stateIn}
-use Rattle.engine.specs.declared.Changed.{Changed}
-use Rattle.engine.specs.declared.Changed.the-variants.{Done as Changed·Done, Refused as Changed·Refused}
-use Rattle.engine.specs.Calls.{sizesRight, lent, storesOf, Clears}
-use Rattle.engine.specs.Lent.{lengths, lent-by}
+use Rattle.host.specs.declared.Changed.{Changed}
+use Rattle.host.specs.declared.Changed.the-variants.{Done as Changed·Done, Refused as Changed·Refused}
+use Rattle.host.specs.Calls.{sizesRight, lent, storesOf, Clears}
+use Rattle.host.specs.Lent.{lengths, lent-by}
 
 abbrev is-done : Changed → Bool
 is-done (Changed·Done c) = true

@@ -21,10 +21,10 @@ use Rattle.heapops.specs.declared.Counts.{Counts}
 use Rattle.heapops.specs.Turns.{Mem}
 use Rattle.finish.specs.Parts.{Tables}
 use Rattle.run.specs.Runs.{stateIn, Placed}
-use Rattle.engine.specs.declared.Changed.{Changed}
-use Rattle.engine.specs.declared.Changed.the-variants.{Done as Changed·Done, Refused as Changed·Refused}
-use Rattle.engine.specs.Calls.{sizesRight, lent, Stands, Rests, Called, Clears, answerOfChanged, countsOfChanged}
-use Rattle.engine.specs.Lent.{lent-sizes, images-length}
+use Rattle.host.specs.declared.Changed.{Changed}
+use Rattle.host.specs.declared.Changed.the-variants.{Done as Changed·Done, Refused as Changed·Refused}
+use Rattle.host.specs.Calls.{sizesRight, lent, Stands, Rests, Called, Clears, answerOfChanged, countsOfChanged}
+use Rattle.host.specs.Lent.{lent-sizes, images-length}
 
 -- what a host has between two calls: the counts of the last answer, and the stores
 pub record Engine : Type 0 where

@@ -1,11 +1,5 @@
-pub mod Calls
-pub mod Lent
-pub mod Performs
 pub mod Clears
 pub mod Loads
 pub mod Registers
-pub mod Inside
-pub mod Globals
 pub mod Runs
-pub mod Writes
 pub mod Demand3

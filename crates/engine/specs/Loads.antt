@@ -24,9 +24,9 @@ use Rattle.heapops.specs.declared.Counts.{Counts}
 use Rattle.heapops.specs.Turns.{Mem}
 use Rattle.finish.specs.Parts.{Tables}
 use Rattle.run.specs.Runs.{stateIn}
-use Rattle.engine.specs.Calls.{lent, storesOf, imageCounts, Stands, Called}
-use Rattle.engine.specs.Lent.{Lent, lent-sizes, lent-lengths, lent-within, lent-by}
-use Rattle.engine.specs.Performs.{Comes, comes-lent}
+use Rattle.host.specs.Calls.{lent, storesOf, imageCounts, Stands, Called}
+use Rattle.host.specs.Lent.{Lent, lent-sizes, lent-lengths, lent-within, lent-by}
+use Rattle.host.specs.Performs.{Comes, comes-lent}
 
 first : (a b c d e : Bool) → (a && b && c && d && e) ≡ true → a ≡ true
 first true b c d e p = refl

@@ -25,11 +25,11 @@ use Rattle.heapops.specs.declared.Counts.{Counts}
 use Rattle.heapops.specs.Turns.{Mem}
 use Rattle.finish.specs.Parts.{Tables}
 use Rattle.run.specs.Runs.{stateIn, groundOf}
-use Rattle.engine.specs.declared.Numbered.{Numbered}
-use Rattle.engine.specs.declared.Numbered.the-variants.{Done as Numbered·Done, Refused as Numbered·Refused}
-use Rattle.engine.specs.Calls.{Called, answerOfNumbered, countsOfNumbered}
-use Rattle.engine.specs.Lent.{Lent, lent-within, lent-stored, withStored, memStored, images-length}
-use Rattle.engine.specs.Performs.{comes-went, called-no, called-full, called-done}
+use Rattle.host.specs.declared.Numbered.{Numbered}
+use Rattle.host.specs.declared.Numbered.the-variants.{Done as Numbered·Done, Refused as Numbered·Refused}
+use Rattle.host.specs.Calls.{Called, answerOfNumbered, countsOfNumbered}
+use Rattle.host.specs.Lent.{Lent, lent-within, lent-stored, withStored, memStored, images-length}
+use Rattle.host.specs.Performs.{comes-went, called-no, called-full, called-done}
 
 -- The function's number is how many there were.
 abbrev pub added : Counts → Grown → Numbered

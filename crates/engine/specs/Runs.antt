@@ -35,9 +35,9 @@ use Rattle.finish.specs.Parts.{Tables, withStacks}
 use Rattle.run.specs.Bounds.{went-bounded}
 use Rattle.run.specs.Runs.{Told, runOf, run-is, Whole, groundOf, stateIn, ranOf, resultOf, Leaves}
 use Rattle.run.specs.declared.Ran.{Ran}
-use Rattle.engine.specs.Calls.{lent, storesOf, imageCounts, Called}
-use Rattle.engine.specs.Lent.{Lent, lent-by, lent-lengths, lent-within, whole-lent, images-length}
-use Rattle.engine.specs.Performs.{Comes, comes-failed, comes-went, called-no, called-full, called-refused, called-sure}
+use Rattle.host.specs.Calls.{lent, storesOf, imageCounts, Called}
+use Rattle.host.specs.Lent.{Lent, lent-by, lent-lengths, lent-within, whole-lent, images-length}
+use Rattle.host.specs.Performs.{Comes, comes-failed, comes-went, called-no, called-full, called-refused, called-sure}
 
 limit-is : R.stepLimit ≡ 100000
 unfolding R.stepLimit

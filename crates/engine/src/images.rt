@@ -1,14 +1,14 @@
 //! Load and register: what an image brings, and a template of it made a function.
-use crate::Numbered;
-use crate::questions::lent;
 use heap::Grown;
 use heapops::Counts;
+use host::Numbered;
+use host::questions::lent;
 use image::ImageCounts;
 ghost use mathlib.Core.Path.{_≡_};
 ghost use Rattle.machine.specs.Host as Host;
 ghost use Rattle.heapops.specs.Turns.{mem};
 ghost use Rattle.finish.specs.Parts.{tables};
-ghost use Rattle.engine.specs.Calls.{Called, answerOfNumbered, countsOfNumbered};
+ghost use Rattle.host.specs.Calls.{Called, answerOfNumbered, countsOfNumbered};
 ghost use Rattle.engine.specs.Registers.{added};
 
 // What came of a function more.

@@ -1,50 +1,14 @@
-//! The host calls. Each is lent every store; a call that is refused alters nothing.
+//! The host calls that make an engine: clear; load and register; run. Each is lent every store; a call that is refused alters nothing. specs/Demand3 has the claim
+//! about every list of calls.
 use heapops::Counts;
-use questions::listed;
-use run::Ran;
-use value::Value;
+use host::Changed;
+use host::questions::listed;
 ghost use Rattle.heapops.specs.Turns.{mem};
 ghost use Rattle.finish.specs.Parts.{tables};
-ghost use Rattle.engine.specs.Calls.{Clears};
+ghost use Rattle.host.specs.Calls.{Clears};
 
-pub mod buffers;
-pub mod globals;
 pub mod images;
-pub mod questions;
 pub mod runs;
-
-// What clear and set global leave.
-pub enum Changed {
-    Done(Counts),
-    Refused(u64),
-}
-
-// An image's or a function's number.
-pub enum Numbered {
-    Done(usize, Counts),
-    Refused(u64),
-}
-
-pub enum GlobalRead {
-    Valued(Value),
-    Refused(u64),
-}
-
-pub enum RunAnswer {
-    Ran(Ran),
-    Refused(u64),
-}
-
-// How many bytes were written to the buffer's start.
-pub enum Wrote {
-    Bytes(usize),
-    Refused(u64),
-}
-
-pub enum Drained {
-    Bytes(usize, Counts),
-    Refused(u64),
-}
 
 pub fn clear(
     code: &mut [u8],

@@ -1,14 +1,14 @@
 //! A run.
-use crate::RunAnswer;
-use crate::questions::lent;
 use heapops::Counts;
+use host::RunAnswer;
+use host::questions::lent;
 use stacks::Made;
 ghost use Prim.Native.Nat.{_<_};
 ghost use Rattle.machine.specs.Host as Host;
 ghost use Rattle.heapops.specs.Turns.{mem};
 ghost use Rattle.finish.specs.Parts.{tables};
-ghost use Rattle.engine.specs.Calls.{Called, answerOfRun, countsOfRun};
-ghost use Rattle.engine.specs.Lent.{Lent};
+ghost use Rattle.host.specs.Calls.{Called, answerOfRun, countsOfRun};
+ghost use Rattle.host.specs.Lent.{Lent};
 
 // A run's own frame, and its steps.
 fn start(

@@ -1,8 +1,8 @@
 //! For the measurements of bench/run: reads a count in decimal, a line end and an image from standard input; then clears, loads and runs the image that many
 //! times, and prints the last run's end and steps.
-use engine::Changed;
-use engine::Numbered;
-use engine::RunAnswer;
+use host::Changed;
+use host::Numbered;
+use host::RunAnswer;
 use libc::STDOUT_FILENO;
 use std::num::wrapping_add_u64;
 

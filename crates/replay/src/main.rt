@@ -5,12 +5,12 @@ use bytes::quad;
 use bytes::triple;
 use bytes::wide;
 use bytes::word;
-use engine::Changed;
-use engine::Drained;
-use engine::Numbered;
-use engine::RunAnswer;
 use heapops::Counts;
 use held::Cursor;
+use host::Changed;
+use host::Drained;
+use host::Numbered;
+use host::RunAnswer;
 use libc::STDOUT_FILENO;
 use run::Ending;
 use run::Ran;
@@ -259,7 +259,7 @@ fn run_call(
         RunAnswer::Refused(q) => not_run(p, buf, q),
         RunAnswer::Ran(r) => {
             let counts = r.counts;
-            let d = engine::buffers::drain(
+            let d = buffers::drain(
                 code,
                 places,
                 rows,
@@ -298,7 +298,7 @@ fn drain_call(
     let c = p.cursor;
     let k = p.counts;
     let start = held::on(c, 1, true, 0);
-    match engine::buffers::drain(
+    match buffers::drain(
         code,
         places,
         rows,

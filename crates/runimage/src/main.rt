@@ -1,11 +1,11 @@
 //! The bench sheet's program: reads an image from standard input, loads and runs it, and prints one line of what came of it, then each line of its
 //! output after `>`. An input above MOST bytes is told instead, in a line that does not begin with `end`: nothing is loaded of it, and no call has a number for it.
-use engine::Changed;
-use engine::Drained;
-use engine::Numbered;
-use engine::RunAnswer;
-use engine::Wrote;
 use heapops::Counts;
+use host::Changed;
+use host::Drained;
+use host::Numbered;
+use host::RunAnswer;
+use host::Wrote;
 use libc::STDOUT_FILENO;
 use std::num::wrapping_add_usize;
 use value::Value;
@@ -156,7 +156,7 @@ fn print<'a>(
     head(t);
     let k = t.counts;
     let v = t.value;
-    if let Wrote::Bytes(n) = engine::buffers::text_of(
+    if let Wrote::Bytes(n) = buffers::text_of(
         code,
         places,
         rows,
@@ -171,7 +171,7 @@ fn print<'a>(
     ) {
         say_text(buffer, n);
     }
-    if let Drained::Bytes(n, _) = engine::buffers::drain(
+    if let Drained::Bytes(n, _) = buffers::drain(
         code,
         places,
         rows,

@@ -5,7 +5,7 @@ use Rattle.carderwheel.proofs.carderwheel_drain_in.Tie as tie
 use Rattle.carderwheel.proofs.carderwheel_drain_in.Reads as reads
 use Rattle.carderwheel.proofs.carderwheel_drain_in.Lts as lts
 use Rattle.answers.proofs.drained.Reads as drained-reads
-use Rattle.engine.proofs.buffers.drain.Reads as drain-reads
+use Rattle.buffers.proofs.drain.Reads as drain-reads
 
 drain-requires : tie.Need-drain-requires
 drain-requires c κs = search needs

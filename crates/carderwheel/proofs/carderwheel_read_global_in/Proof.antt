@@ -5,7 +5,7 @@ use Rattle.carderwheel.proofs.carderwheel_read_global_in.Tie as tie
 use Rattle.carderwheel.proofs.carderwheel_read_global_in.Reads as reads
 use Rattle.carderwheel.proofs.carderwheel_read_global_in.Lts as lts
 use Rattle.answers.proofs.valued.Reads as valued-reads
-use Rattle.engine.proofs.globals.read_global.Reads as read-global-reads
+use Rattle.globals.proofs.read_global.Reads as read-global-reads
 
 read-global-requires : tie.Need-read-global-requires
 read-global-requires c κs = search needs

@@ -6,7 +6,7 @@ use Rattle.carderwheel.proofs.carderwheel_set_global_in.Tie as tie
 use Rattle.carderwheel.proofs.carderwheel_set_global_in.Reads as reads
 use Rattle.carderwheel.proofs.carderwheel_set_global_in.Lts as lts
 use Rattle.answers.proofs.changed.Reads as changed-reads
-use Rattle.engine.proofs.globals.set_global.Reads as set-global-reads
+use Rattle.globals.proofs.set_global.Reads as set-global-reads
 use Rattle.answers.proofs.decoded.Reads as decoded-reads
 
 decoded-requires : tie.Need-decoded-requires

@@ -5,7 +5,7 @@ use Rattle.carderwheel.proofs.carderwheel_set_global_text_in.Tie as tie
 use Rattle.carderwheel.proofs.carderwheel_set_global_text_in.Reads as reads
 use Rattle.carderwheel.proofs.carderwheel_set_global_text_in.Lts as lts
 use Rattle.answers.proofs.changed.Reads as changed-reads
-use Rattle.engine.proofs.globals.set_global_text.Reads as set-global-text-reads
+use Rattle.globals.proofs.set_global_text.Reads as set-global-text-reads
 
 set-global-text-requires : tie.Need-set-global-text-requires
 set-global-text-requires c κs = search needs

@@ -5,7 +5,7 @@ use Rattle.carderwheel.proofs.carderwheel_text_bytes_in.Tie as tie
 use Rattle.carderwheel.proofs.carderwheel_text_bytes_in.Reads as reads
 use Rattle.carderwheel.proofs.carderwheel_text_bytes_in.Lts as lts
 use Rattle.answers.proofs.wrote.Reads as wrote-reads
-use Rattle.engine.proofs.buffers.text_of_bytes.Reads as text-of-bytes-reads
+use Rattle.buffers.proofs.text_of_bytes.Reads as text-of-bytes-reads
 
 text-of-bytes-requires : tie.Need-text-of-bytes-requires
 text-of-bytes-requires c κs = search needs

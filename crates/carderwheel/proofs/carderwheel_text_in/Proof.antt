@@ -6,7 +6,7 @@ use Rattle.carderwheel.proofs.carderwheel_text_in.Tie as tie
 use Rattle.carderwheel.proofs.carderwheel_text_in.Reads as reads
 use Rattle.carderwheel.proofs.carderwheel_text_in.Lts as lts
 use Rattle.answers.proofs.wrote.Reads as wrote-reads
-use Rattle.engine.proofs.buffers.text_of.Reads as text-of-reads
+use Rattle.buffers.proofs.text_of.Reads as text-of-reads
 use Rattle.answers.proofs.decoded.Reads as decoded-reads
 
 decoded-requires : tie.Need-decoded-requires

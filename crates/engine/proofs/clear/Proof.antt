@@ -3,13 +3,13 @@ use Rattle.heapops.specs.Turns.{mem}
 use Rattle.finish.specs.Parts.{tables}
 use denote.Ref.{now}
 use mathlib.Core.Path.{sym, _∙_}
-use Rattle.engine.specs.Lent.{lengths}
+use Rattle.host.specs.Lent.{lengths}
 use Rattle.engine.specs.Clears.{clear-refused, clear-done}
 use Rattle.engine.proofs.clear.Statement.{statement}
 use Rattle.engine.proofs.clear.Tie as tie
 use Rattle.engine.proofs.clear.Reads as reads
 use Rattle.engine.proofs.clear.Lts as lts
-use Rattle.engine.proofs.questions.listed.Reads as listed-reads
+use Rattle.host.proofs.questions.listed.Reads as listed-reads
 use Rattle.heap.proofs.clear.Reads as clear-reads
 use Rattle.heapops.proofs.Counts.fresh.Reads as fresh-reads
 

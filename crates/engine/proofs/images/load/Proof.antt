@@ -1,11 +1,11 @@
 use borrow.Author.Needs.{needs}
-use Rattle.engine.specs.Lent.{lent-if, not-lent}
+use Rattle.host.specs.Lent.{lent-if, not-lent}
 use Rattle.engine.specs.Loads.{load-refused, load-done}
 use Rattle.engine.proofs.images.load.Statement.{statement}
 use Rattle.engine.proofs.images.load.Tie as tie
 use Rattle.engine.proofs.images.load.Reads as reads
 use Rattle.engine.proofs.images.load.Lts as lts
-use Rattle.engine.proofs.questions.lent.Reads as lent-reads
+use Rattle.host.proofs.questions.lent.Reads as lent-reads
 use Rattle.image.proofs.load.Reads as load-reads
 
 lent-requires : tie.Need-lent-requires

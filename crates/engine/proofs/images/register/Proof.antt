@@ -2,7 +2,7 @@ use borrow.Author.Needs.{needs}
 use denote.Ref.{now}
 use Rattle.heapops.specs.Turns.{mem}
 use Rattle.finish.specs.Parts.{tables}
-use Rattle.engine.specs.Lent.{lent-if, not-lent, lent-sized}
+use Rattle.host.specs.Lent.{lent-if, not-lent, lent-sized}
 use Rattle.engine.specs.Registers.{register-10, register-zero, register-32, register-added}
 use native.Mathlib.Omega.{arith}
 use Rattle.engine.proofs.images.register.Statement.{statement}
@@ -10,7 +10,7 @@ use Rattle.engine.proofs.images.register.Tie as tie
 use Rattle.engine.proofs.images.register.Reads as reads
 use Rattle.engine.proofs.images.register.Lts as lts
 use Rattle.engine.proofs.images.settle.Reads as settle-reads
-use Rattle.engine.proofs.questions.lent.Reads as lent-reads
+use Rattle.host.proofs.questions.lent.Reads as lent-reads
 use Rattle.heap.proofs.add_function.Reads as add-function-reads
 use Rattle.image.proofs.template_count.Reads as template-count-reads
 

@@ -1,6 +1,6 @@
 use borrow.Author.Needs.{needs}
 use mathlib.Core.Path.{refl, ap}
-use Rattle.engine.specs.declared.Numbered.the-variants.{Refused as Numbered·Refused}
+use Rattle.host.specs.declared.Numbered.the-variants.{Refused as Numbered·Refused}
 use Rattle.engine.proofs.images.settle.Statement.{statement}
 use Rattle.engine.proofs.images.settle.Tie as tie
 use Rattle.engine.proofs.images.settle.Reads as reads

@@ -1,11 +1,11 @@
 use borrow.Author.Needs.{needs}
-use Rattle.engine.specs.Lent.{lent-if, not-lent}
+use Rattle.host.specs.Lent.{lent-if, not-lent}
 use Rattle.engine.specs.Runs.{no-image}
 use Rattle.engine.proofs.runs.run.Statement.{statement}
 use Rattle.engine.proofs.runs.run.Tie as tie
 use Rattle.engine.proofs.runs.run.Reads as reads
 use Rattle.engine.proofs.runs.run.Lts as lts
-use Rattle.engine.proofs.questions.lent.Reads as lent-reads
+use Rattle.host.proofs.questions.lent.Reads as lent-reads
 use Rattle.engine.proofs.runs.start.Reads as start-reads
 
 lent-requires : tie.Need-lent-requires

@@ -1,6 +1,6 @@
 use borrow.Author.Needs.{needs}
 use Rattle.run.specs.Runs.{whole-ready}
-use Rattle.engine.specs.Lent.{whole-lent}
+use Rattle.host.specs.Lent.{whole-lent}
 use Rattle.engine.specs.Runs.{start-full, start-failed, start-whole, start-ran}
 use Rattle.engine.proofs.runs.start.Statement.{statement}
 use Rattle.engine.proofs.runs.start.Tie as tie
