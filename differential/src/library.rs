@@ -266,6 +266,9 @@ impl Library {
         if top != 0 {
             return Err(format!("{} slots belong to no frame", top));
         }
+        if n(2) == 0 && c[4] != 0 {
+            return Err(format!("no frame stands, and the place is {}", c[4]));
+        }
         parts.push(("frames", out));
 
         let mut out = part(n(3));
