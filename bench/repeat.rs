@@ -3,7 +3,8 @@
 //! run on the copy that is stepped.
 
 use crate::plain::js_vm::JsVm;
-use crate::runs::{Both, Coverage, STEP_LIMIT};
+use crate::limits;
+use crate::runs::{Both, Coverage};
 use crate::sample::{Image, Sample};
 use std::io::Read;
 
@@ -14,7 +15,7 @@ pub fn main() {
     let count: usize = std::str::from_utf8(&input[..end]).unwrap().parse().expect("a count");
     let image = Image::read(&input[end + 1..]).expect("an image");
     if std::env::args().nth(1).as_deref() == Some("--steps") {
-        let told = Both::new().run(&Sample::run_one("bench", image), 0, STEP_LIMIT, &mut Coverage::new());
+        let told = Both::new().run(&Sample::run_one("bench", image), 0, limits::STEPS, &mut Coverage::new());
         let told = told.expect("a run that ends");
         println!("end {} steps {}", told.end[0], told.steps);
         return;

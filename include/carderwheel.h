@@ -15,15 +15,28 @@ extern "C" {
 /* The library takes and gives sizes of 64 bits; elsewhere this does not compile. */
 typedef char carderwheel_size_t_has_64_bits_[sizeof(size_t) == 8 ? 1 : -1];
 
-/* Document 01's limits, and what a buffer needs at most. */
+/* How much of each store there is: the limits of documents 01 and 02. `counts` of an engine says how much is in use. */
 enum {
-    CARDERWHEEL_STACK_WORDS = 9728, /* operands 1,024 and slots 2,048 of 3 words, frames 64 of 5, handlers 64 of 3 */
-    CARDERWHEEL_HEAP_WORDS = 9472,  /* functions 1,024 of 2 words, objects 512 of 1, properties 1,024 and globals 128 of 6 */
+    CARDERWHEEL_OPERANDS = 1024,
+    CARDERWHEEL_SLOTS = 2048,
+    CARDERWHEEL_FRAMES = 64,
+    CARDERWHEEL_HANDLERS = 12,
+    CARDERWHEEL_FUNCTIONS = 1024,
+    CARDERWHEEL_OBJECTS = 512,
+    CARDERWHEEL_PROPERTIES = 1024,
+    CARDERWHEEL_GLOBALS = 128, /* `console` is one */
     CARDERWHEEL_CODE_BYTES = 32768,
     CARDERWHEEL_IMAGES = 16,
-    CARDERWHEEL_TEXT_BYTES = 32768,
+    CARDERWHEEL_TEXT_BYTES = 32768,  /* also the longest text of a value */
     CARDERWHEEL_OUTPUT_BYTES = 8192, /* also the most that carderwheel_drain writes */
-    CARDERWHEEL_CALL_STACK = 8192    /* free stack for a call, on x86-64: measured, docs/EMBEDDING.md */
+    CARDERWHEEL_STEPS = 100000       /* of a run */
+};
+
+/* What that takes, and the free stack that a call needs. */
+enum {
+    CARDERWHEEL_STACK_WORDS = 3 * CARDERWHEEL_OPERANDS + 3 * CARDERWHEEL_SLOTS + 5 * CARDERWHEEL_FRAMES + 3 * CARDERWHEEL_HANDLERS,
+    CARDERWHEEL_HEAP_WORDS = 2 * CARDERWHEEL_FUNCTIONS + CARDERWHEEL_OBJECTS + 6 * CARDERWHEEL_PROPERTIES + 6 * CARDERWHEEL_GLOBALS,
+    CARDERWHEEL_CALL_STACK = 8192 /* bytes, on x86-64: measured, docs/EMBEDDING.md */
 };
 
 /* A value. Any other kind counts as undefined. */
@@ -184,7 +197,7 @@ static inline uint64_t carderwheel_read_global(const carderwheel *e, const uint8
     return a.number;
 }
 
-/* At most 100,000 steps. */
+/* At most CARDERWHEEL_STEPS steps. */
 static inline carderwheel_ran carderwheel_run(carderwheel *e, uint64_t image) {
     carderwheel_told_ a = carderwheel_run_in(CARDERWHEEL_STORES_(e), image);
     e->counts = a.counts;

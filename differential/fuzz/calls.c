@@ -21,7 +21,9 @@ enum { STORES = 8, FRONT = 64, PATTERN = 0xa5 };
 static const size_t listed[STORES] = {CARDERWHEEL_CODE_BYTES, CARDERWHEEL_CODE_BYTES, CARDERWHEEL_CODE_BYTES, CARDERWHEEL_IMAGES,
     CARDERWHEEL_STACK_WORDS, CARDERWHEEL_HEAP_WORDS, CARDERWHEEL_TEXT_BYTES, CARDERWHEEL_OUTPUT_BYTES};
 static const size_t width[STORES] = {1, 2, 2, 2, 8, 8, 1, 1};
-static const uint64_t most[13] = {1024, 2048, 64, 64, 65535, 1024, 512, 1024, 128, 32768, 16, 32768, 8192};
+static const uint64_t most[13] = {CARDERWHEEL_OPERANDS, CARDERWHEEL_SLOTS, CARDERWHEEL_FRAMES, CARDERWHEEL_HANDLERS, 65535, CARDERWHEEL_FUNCTIONS,
+    CARDERWHEEL_OBJECTS, CARDERWHEEL_PROPERTIES, CARDERWHEEL_GLOBALS, CARDERWHEEL_CODE_BYTES, CARDERWHEEL_IMAGES, CARDERWHEEL_TEXT_BYTES,
+    CARDERWHEEL_OUTPUT_BYTES};
 
 static uint8_t *store[STORES];
 static size_t lent[STORES];
@@ -192,7 +194,7 @@ static void host_call(unsigned call) {
     }
     case 6: {
         carderwheel_told_ r = carderwheel_run_in(LENT, number(1));
-        if (r.ran.steps > 100000) wrong("more than 100,000 steps");
+        if (r.ran.steps > CARDERWHEEL_STEPS) wrong("more steps than a run makes");
         if (r.ran.started > 1 || (r.ran.started == 0 && (r.ran.number == 0 || r.ran.steps != 0))) wrong("a run that is neither begun nor refused");
         if (r.ran.started == 1) {
             before = 0;

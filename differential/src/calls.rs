@@ -1,6 +1,7 @@
 //! Host calls with any arguments, what they are answered, and lists of them to run.
 
 use crate::images::OPCODES;
+use crate::limits;
 use crate::plain::js_compiler::Opcode;
 use crate::sample::{Action, Given, Image, Plain, Sample};
 
@@ -84,7 +85,7 @@ impl Call {
             Action::Register(i, t) => Call::Register(*i as u64, *t as u64),
             Action::SetGlobal(name, g) => Call::set(name, g),
             Action::ReadGlobal(name) => Call::ReadGlobal(name.clone()),
-            Action::Drain => Call::Drain(8192),
+            Action::Drain => Call::Drain(limits::OUTPUT_BYTES),
         };
         sample.actions.iter().map(call).collect()
     }

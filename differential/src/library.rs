@@ -1,29 +1,25 @@
 //! The engine behind its C interface (include/carderwheel.h): the calls, and what its stores hold, read off their words.
 
+use crate::limits::*;
 use crate::plain::engine::{counted, word};
 
 use super::calls::{Answer, Call, Words};
 
-const STACK_WORDS: usize = 9728;
-const HEAP_WORDS: usize = 9472;
-const CODE_BYTES: usize = 32_768;
-const IMAGES: usize = 16;
-const TEXT_BYTES: usize = 32_768;
-const OUTPUT_BYTES: usize = 8192;
-
 /// Where each store begins in its array (crates/stacks/specs/Layout.antt, crates/heap/specs/Layout.antt).
-const SLOTS_AT: usize = 3 * 1024;
-const FRAMES_AT: usize = SLOTS_AT + 3 * 2048;
-const HANDLERS_AT: usize = FRAMES_AT + 5 * 64;
-const OBJECTS_AT: usize = 2 * 1024;
-const PROPERTIES_AT: usize = OBJECTS_AT + 512;
-const GLOBALS_AT: usize = PROPERTIES_AT + 6 * 1024;
+const SLOTS_AT: usize = 3 * OPERANDS;
+const FRAMES_AT: usize = SLOTS_AT + 3 * SLOTS;
+const HANDLERS_AT: usize = FRAMES_AT + 5 * FRAMES;
+const STACK_WORDS: usize = HANDLERS_AT + 3 * HANDLERS;
+const OBJECTS_AT: usize = 2 * FUNCTIONS;
+const PROPERTIES_AT: usize = OBJECTS_AT + OBJECTS;
+const GLOBALS_AT: usize = PROPERTIES_AT + 6 * PROPERTIES;
+const HEAP_WORDS: usize = GLOBALS_AT + 6 * GLOBALS;
 
 /// `carderwheel_counts`: operands, slots, frames, handlers, place of the newest frame; functions, objects, properties, globals; code, images, text, output.
 type Counts = [u64; 13];
 
 /// The most of each, but of the place.
-const LIMITS: Counts = [1024, 2048, 64, 64, 65_535, 1024, 512, 1024, 128, CODE_BYTES as u64, IMAGES as u64, TEXT_BYTES as u64, OUTPUT_BYTES as u64];
+const LIMITS: [usize; 13] = [OPERANDS, SLOTS, FRAMES, HANDLERS, 65_535, FUNCTIONS, OBJECTS, PROPERTIES, GLOBALS, CODE_BYTES, IMAGES, TEXT_BYTES, OUTPUT_BYTES];
 
 /// `carderwheel`
 #[repr(C)]
@@ -135,7 +131,8 @@ impl Library {
         Ok(Answer::Ran(end, r.steps))
     }
 
-    /// Each call over stores of which one has another length: 33, whichever it is, and for counts beyond the stores too. The failures.
+    /// Each call over stores of which one has another length: 33, whichever it is. For counts beyond the stores too, and not for counts at their limits. The
+    /// failures.
     pub fn sizes(&mut self) -> Vec<String> {
         let listed = [CODE_BYTES, CODE_BYTES, CODE_BYTES, IMAGES, STACK_WORDS, HEAP_WORDS, TEXT_BYTES, OUTPUT_BYTES];
         let mut wrong = Vec::new();
@@ -157,12 +154,14 @@ impl Library {
                 continue;
             }
             for call in 1..10 {
-                let before = self.stores.counts;
-                self.stores.counts[k] = LIMITS[k] + 1;
-                let told = unsafe { face_sized(&mut *self.stores, call, listed.as_ptr()) };
-                self.stores.counts = before;
-                if told != 33 {
-                    wrong.push(format!("call {} with count {} beyond its store: {}", call, k, told));
+                for over in [0, 1] {
+                    let before = self.stores.clone();
+                    self.stores.counts[k] = LIMITS[k] as u64 + over;
+                    let told = unsafe { face_sized(&mut *self.stores, call, listed.as_ptr()) };
+                    self.stores = before;
+                    if (told == 33) != (over == 1) {
+                        wrong.push(format!("call {} with count {} of {}: {}", call, k, LIMITS[k] as u64 + over, told));
+                    }
                 }
             }
         }
@@ -228,7 +227,7 @@ impl Library {
     /// Everything held, part by part, in the order of tests/oracle/engine.rs.
     pub fn state(&self) -> Result<Vec<(&'static str, Vec<u8>)>, String> {
         let c = &self.stores.counts;
-        if let Some(k) = (0..13).find(|k| c[*k] > LIMITS[*k]) {
+        if let Some(k) = (0..13).find(|k| c[*k] > LIMITS[*k] as u64) {
             return Err(format!("count {} is {}", k, c[k]));
         }
         let n = |k: usize| c[k] as usize;

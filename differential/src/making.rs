@@ -1,6 +1,7 @@
 //! Programs from a seed: those of tests/oracle and tests/replay, joined and with host calls between; damaged images; stores filled by the host.
 
 use crate::images;
+use crate::limits;
 use crate::sample::{Action, Const, Image, Rng, Sample, Template};
 
 use super::calls::{Call, Program, Words};
@@ -52,7 +53,7 @@ fn any(r: &mut Rng) -> Call {
         15..=17 => Call::Run(number(r)),
         18 | 19 => Call::Text(words(r), room(r)),
         20 => Call::TextBytes(bytes(r, 20), room(r)),
-        _ => Call::Drain(if r.once_in(2) { r.below(60) } else { 8192 }),
+        _ => Call::Drain(if r.once_in(2) { r.below(60) } else { limits::OUTPUT_BYTES }),
     }
 }
 
@@ -297,12 +298,12 @@ fn hosting(r: &mut Rng) -> Program {
         0 => {
             // functions; then one more by code
             calls.push(Call::Load(chunk(vec![Const::Function(1)], &[52, 0, 0, 0, 0, 0, 50, 0]).bytes().0));
-            calls.extend((0..about(r, 1024)).map(|_| Call::Register(0, 1)));
+            calls.extend((0..about(r, limits::FUNCTIONS)).map(|_| Call::Register(0, 1)));
         }
         1 => {
             // globals; then more by code
             calls.push(Call::Load(chunk(vec![text("n"), text("m")], &[70, 4, 0, 0, 70, 4, 0, 1, 70, 4, 0, 0]).bytes().0));
-            for i in 0..about(r, 127) {
+            for i in 0..about(r, limits::GLOBALS - 1) {
                 let w = words(r);
                 calls.push(Call::SetGlobal(format!("g{}", i).into_bytes(), [w[0].min(3), w[1], 0]));
             }
@@ -311,7 +312,7 @@ fn hosting(r: &mut Rng) -> Program {
             // text, by names and by bytes; then more by code
             let code = [0, 0, 0, 0, 0, 1, 10, 71, 80, 70, 4, 0, 0, 60, 70, 6, 0, 1];
             calls.push(Call::Load(chunk(vec![text("long name"), text("k")], &code).bytes().0));
-            let mut left = about(r, 32_768) - 14;
+            let mut left = about(r, limits::TEXT_BYTES) - 14;
             while left > 0 {
                 let n = (1 + r.below(6000)).min(left);
                 left -= n;
@@ -327,7 +328,7 @@ fn hosting(r: &mut Rng) -> Program {
         4 => {
             // images, small ones to the last number or longer ones to the last byte
             let size = if r.once_in(2) { 1 } else { 1000 + r.below(2500) };
-            for k in 0..18 {
+            for k in 0..limits::IMAGES as u64 + 2 {
                 calls.push(Call::Load(chunk(vec![Const::Text(vec![b'i'; size])], &[0, 0, 0, 255]).bytes().0));
                 if r.once_in(5) {
                     calls.push(Call::Run(k));
@@ -339,7 +340,8 @@ fn hosting(r: &mut Rng) -> Program {
             let code: &[u8] = r.pick(&[&[255][..], &[75, 0, 0, 255], &[70, 81, 75, 0, 3, 255], &[70, 2, 0, 30, 255], &[75, 0, 4, 255, 80, 255]]);
             calls.push(Call::Load(chunk(Vec::new(), code).bytes().0));
             calls.push(Call::Load(chunk(vec![text("t")], &[0, 0, 0, 74]).bytes().0));
-            for _ in 0..about(r, 64) {
+            let most = r.pick(&[limits::FRAMES, limits::HANDLERS]);
+            for _ in 0..about(r, most) {
                 calls.push(Call::Run(r.once_in(30) as u64));
             }
         }
@@ -348,10 +350,10 @@ fn hosting(r: &mut Rng) -> Program {
             let line = r.below(700);
             let code = [3, 0, 0, 0, 0, 1, 50, 1, 80];
             calls.push(Call::Load(chunk(vec![text("console"), Const::Text(vec![b'o'; line])], &code).bytes().0));
-            for _ in 0..8192 / (line + 20) + r.below(12) {
+            for _ in 0..limits::OUTPUT_BYTES / (line + 20) + r.below(12) {
                 calls.push(Call::Run(0));
                 if r.once_in(9) {
-                    calls.push(Call::Drain(r.pick(&[0, line, line + 2, 4 * (line + 2), 8192])));
+                    calls.push(Call::Drain(r.pick(&[0, line, line + 2, 4 * (line + 2), limits::OUTPUT_BYTES])));
                 }
             }
         }
@@ -400,25 +402,25 @@ fn brink(r: &mut Rng) -> Program {
     let load = |constants: Vec<Const>, code: &[u8]| Call::Load(chunk(constants, code).bytes().0);
     match store {
         0..=5 => {
-            let limit = [1024, 2048, 64, 512, 1024, 127][store];
+            let limit = [limits::OPERANDS, limits::SLOTS, limits::HANDLERS, limits::OBJECTS, limits::PROPERTIES, limits::GLOBALS - 1][store];
             calls.extend([load(Vec::new(), &filling(store, limit - few(r, 8))), Call::Run(0)]);
         }
         6 => {
-            let left = 8192 - few(r, 50) - 2;
+            let left = limits::OUTPUT_BYTES - few(r, 50) - 2;
             let texts = [b"console".to_vec(), vec![b'l'; 98], vec![b'e'; left % 100]];
             calls.extend([load(texts.map(Const::Text).to_vec(), &filling(6, left / 100)), Call::Run(0)]);
         }
         7 => {
             calls.push(load(Vec::new(), &[255]));
-            calls.extend((0..64 - few(r, 8)).map(|_| Call::Run(0)));
+            calls.extend((0..limits::FRAMES - few(r, 8)).map(|_| Call::Run(0)));
         }
         8 => {
             calls.push(load(Vec::new(), &[255]));
-            calls.extend((0..1024 - few(r, 8)).map(|_| Call::Register(0, 1)));
+            calls.extend((0..limits::FUNCTIONS - few(r, 8)).map(|_| Call::Register(0, 1)));
         }
         _ => {
             images = 0;
-            calls.push(Call::SetGlobalText(b"t".to_vec(), vec![b'7'; 32_767 - few(r, 80)]));
+            calls.push(Call::SetGlobalText(b"t".to_vec(), vec![b'7'; limits::TEXT_BYTES - 1 - few(r, 80)]));
         }
     }
     let s = sample_after(r, images);

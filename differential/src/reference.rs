@@ -1,7 +1,8 @@
 //! What every call is to answer and to leave: the Rust of documents 000 to 002, and document 01's rules for what it adds to them.
 
 use crate::plain::engine::{given, value};
-use crate::runs::{Both, Coverage, STEP_LIMIT};
+use crate::limits;
+use crate::runs::{Both, Coverage};
 use crate::sample::{Given, Image, Plain, Sample};
 
 use super::calls::{Answer, Call, Words};
@@ -80,8 +81,8 @@ impl Reference {
 
     fn load(&mut self, bytes: &[u8]) -> Result<Answer, u64> {
         let image = Image::read(bytes).map_err(u64::from)?;
-        ask(self.code.len() + bytes.len() <= 32_768, 8)?;
-        ask(self.images() < 16, 9)?;
+        ask(self.code.len() + bytes.len() <= limits::CODE_BYTES, 8)?;
+        ask(self.images() < limits::IMAGES, 9)?;
         self.code.extend_from_slice(bytes);
         self.loaded.images.push(image);
         Ok(Answer::Number(self.images() as u64 - 1))
@@ -91,14 +92,14 @@ impl Reference {
         ask(image < self.images() as u64, 10)?;
         let i = image as usize;
         ask(1 <= template && template < self.loaded.images[i].templates.len() as u64, 32)?;
-        ask(self.both.engine.vm.function_arena.len() < 1024, 23)?;
+        ask(self.both.engine.vm.function_arena.len() < limits::FUNCTIONS, 23)?;
         Ok(Answer::Number(self.both.register(&self.loaded, i, template as usize) as u64))
     }
 
     fn run(&mut self, image: u64, seen: &mut Coverage) -> Result<Answer, u64> {
         ask(image < self.images() as u64, 10)?;
-        ask(self.both.engine.vm.call_stack.len() < 64, 11)?;
-        let told = self.both.run(&self.loaded, image as usize, STEP_LIMIT, seen).expect("a run that ends");
+        ask(self.both.engine.vm.call_stack.len() < limits::FRAMES, 11)?;
+        let told = self.both.run(&self.loaded, image as usize, limits::STEPS, seen).expect("a run that ends");
         Ok(Answer::Ran(told.end, told.steps as u64))
     }
 
@@ -119,10 +120,10 @@ impl Reference {
     fn set(&mut self, name: &[u8], g: &Given) -> Result<Answer, u64> {
         let globals = &self.both.engine.vm.globals;
         let known = globals.contains_key(std::str::from_utf8(name).unwrap());
-        ask(known || globals.len() < 128, 26)?;
+        ask(known || globals.len() < limits::GLOBALS, 26)?;
         let given = if let Given::Fresh(bytes) = g { bytes.len() } else { 0 };
         let added = given + if known { 0 } else { name.len() };
-        ask(self.texts().len() + added <= 32_768, 27)?;
+        ask(self.texts().len() + added <= limits::TEXT_BYTES, 27)?;
         self.both.set_global(name, g);
         Ok(Answer::Done)
     }

@@ -1,22 +1,20 @@
 //! The script engine of the ice-radar logger, as a safe type that owns its stores.
 //!
-//! [`Engine`] is a plain struct of 358,536 bytes: a `static` behind a lock, a field, or a box of the user's. Nothing is allocated. Every call answers with
-//! document 01's number where it is refused, and then has altered nothing; a run that started is not refused, however it ends. docs/EMBEDDING.md has the
-//! calling order and what to do about each number.
+//! [`Engine`] is a plain struct of some 350 KiB ([`limits`] says how much it holds): a `static` behind a lock, a field, or a box of the user's. Nothing is
+//! allocated. Every call answers with document 01's number where it is refused, and then has altered nothing; a run that started is not refused, however it
+//! ends. docs/EMBEDDING.md has the calling order and what to do about each number.
 #![no_std]
 #![deny(missing_docs, unsafe_op_in_unsafe_fn, clippy::undocumented_unsafe_blocks)]
 
 const _: () = assert!(usize::BITS == 64, "the library takes and gives sizes of 64 bits");
 
-const STACK_WORDS: usize = 9728;
-const HEAP_WORDS: usize = 9472;
-/// The bytes that all loaded images have together, at most.
-pub const CODE_BYTES: usize = 32768;
-const IMAGES: usize = 16;
-/// The bytes that texts have together, at most; so also a value's text.
-pub const TEXT_BYTES: usize = 32768;
-/// The most that [`Engine::drain`] writes.
-pub const OUTPUT_BYTES: usize = 8192;
+pub mod limits;
+
+use limits::*;
+pub use limits::{CODE_BYTES, OUTPUT_BYTES, TEXT_BYTES};
+
+const STACK_WORDS: usize = 3 * OPERANDS + 3 * SLOTS + 5 * FRAMES + 3 * HANDLERS;
+const HEAP_WORDS: usize = 2 * FUNCTIONS + OBJECTS + 6 * PROPERTIES + 6 * GLOBALS;
 
 /// Document 01's number of the question that was answered no.
 #[derive(Clone, Copy, Debug, PartialEq, Eq)]
@@ -48,7 +46,7 @@ pub enum Value {
 pub struct Ran {
     /// 0, or 11 to 28
     pub number: u64,
-    /// at most 100,000
+    /// at most [`limits::STEPS`]
     pub steps: usize,
     /// the unknown byte of 13, else 0
     pub opcode: u8,
@@ -277,7 +275,7 @@ impl Engine {
         Ok(a.value.value())
     }
 
-    /// Runs an image, at most 100,000 steps. A run that starts is answered with `Ok`, however it ends.
+    /// Runs an image, at most [`limits::STEPS`] steps. A run that starts is answered with `Ok`, however it ends.
     pub fn run(&mut self, image: usize) -> Result<Ran, Refusal> {
         let t = call!(carderwheel_run_in, self.as_mut_ptr(), image);
         self.counts = t.counts;

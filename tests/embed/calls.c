@@ -39,11 +39,12 @@ static int wrong;
 static const carderwheel_value other = {9, 9, 9}, seven = {CARDERWHEEL_NUMBER, 7ull << 32, 0};
 static const carderwheel_value outside = {CARDERWHEEL_CODE_TEXT, 0, CARDERWHEEL_CODE_BYTES};
 
-/* Document 01's sample: a throw of 7 that is caught; a chunk whose only byte is no opcode, with an empty template after it; and one that prints `ice`
-   by a call of `console`, and ends */
+/* Document 01's sample: a throw of 7 that is caught; a chunk whose only byte is no opcode, with an empty template after it; one that prints `ice`
+   by a call of `console`, and ends; and one that enters a try for ever */
 static const uint8_t sample[] = {0, 1, 0, 0, 0, 0, 0, 1, 0, 0, 0, 0, 7, 0, 0, 0, 0, 0, 9, 0x4B, 0, 8, 0, 0, 0, 0x4A, 0xFF, 0xFF};
 static const uint8_t unknown[] = {0, 2, 0, 0, 0, 0, 0, 0, 0, 1, 0xEE, 0, 0, 0, 0, 0, 0, 0, 0};
 static const uint8_t printing[] = {0, 1, 0, 0, 0, 0, 0, 2, 1, 0, 7, 'c', 'o', 'n', 's', 'o', 'l', 'e', 1, 0, 3, 'i', 'c', 'e', 0, 9, 3, 0, 0, 0, 0, 1, 0x32, 1, 0xFF};
+static const uint8_t leak[] = {0, 1, 0, 0, 0, 0, 0, 0, 0, 6, 0x4B, 0, 0, 0x28, 0, 0};
 
 static uint64_t refused_run(uint64_t image) {
     carderwheel_ran ran = carderwheel_run(&now.engine, image);
@@ -125,6 +126,15 @@ static void calls(void) {
     SAME(memcmp(now.buffer, "\0\3ice", 5), 0);
     SAME(now.engine.counts.output, 0);
 
+    /* one try too many: the run ends as it began the instruction */
+    SAME(carderwheel_load(&now.engine, leak, sizeof leak, &now.n), 0);
+    ran = carderwheel_run(&now.engine, now.n);
+    SAME(ran.started, 1);
+    SAME(ran.number, 22);
+    SAME(ran.steps, 2 * CARDERWHEEL_HANDLERS + 1);
+    SAME(now.engine.counts.handlers, CARDERWHEEL_HANDLERS);
+    SAME(now.engine.counts.ip, 0);
+
     /* a store of another size */
     before = now;
     a = carderwheel_clear_in(now.engine.code, 1, now.engine.places, CARDERWHEEL_CODE_BYTES, now.engine.rows, CARDERWHEEL_CODE_BYTES, now.engine.starts,
@@ -139,8 +149,6 @@ static void calls(void) {
 }
 
 int main(void) {
-    SAME(sizeof now.engine, 358536); /* the total of docs/EMBEDDING.md */
-
     /* memory of any contents: counts that pass their stores are refused by every call but clear, which makes a fresh engine of them */
     memset(&now, 0xFF, sizeof now);
     REFUSED(carderwheel_load(&now.engine, sample, sizeof sample, &now.n), 33);

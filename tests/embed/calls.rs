@@ -1,14 +1,16 @@
 //! Every call of the Rust type, accepted and refused, with the numbers of document 01; and that a refused call alters nothing. Prints nothing where all
 //! is well.
-use carderwheel::{Engine, Ran, Refusal, Value, OUTPUT_BYTES};
+use carderwheel::{limits, Engine, Ran, Refusal, Value, CODE_BYTES, OUTPUT_BYTES};
 use std::sync::Mutex;
 
-// Document 01's sample: a throw of 7 that is caught; a chunk whose only byte is no opcode, with an empty template after it; and one that prints `ice` by a
-// call of `console`, and ends
+// Document 01's sample: a throw of 7 that is caught; a chunk whose only byte is no opcode, with an empty template after it; one that prints `ice` by a
+// call of `console`, and ends; and one that enters a try for ever
 const SAMPLE: [u8; 28] = [0, 1, 0, 0, 0, 0, 0, 1, 0, 0, 0, 0, 7, 0, 0, 0, 0, 0, 9, 0x4B, 0, 8, 0, 0, 0, 0x4A, 0xFF, 0xFF];
 const UNKNOWN: [u8; 19] = [0, 2, 0, 0, 0, 0, 0, 0, 0, 1, 0xEE, 0, 0, 0, 0, 0, 0, 0, 0];
 const PRINTING: &[u8] = b"\0\x01\0\0\0\0\0\x02\x01\0\x07console\x01\0\x03ice\0\x09\x03\0\0\0\0\x01\x32\x01\xFF";
+const LEAK: [u8; 16] = [0, 1, 0, 0, 0, 0, 0, 0, 0, 6, 0x4B, 0, 0, 0x28, 0, 0];
 const SEVEN: Value = Value::Number(7 << 32);
+const OUTSIDE: Value = Value::CodeText(0, CODE_BYTES as u64);
 
 static ENGINE: Mutex<Engine> = Mutex::new(Engine::zeroed());
 
@@ -43,7 +45,7 @@ fn calls(engine: &mut Engine) {
 
     assert_eq!(engine.text(SEVEN, &mut buffer), Ok(&b"7"[..]));
     refused!(engine, buffer, engine.text(SEVEN, &mut []), 31);
-    refused!(engine, buffer, engine.text(Value::CodeText(0, 32768), &mut buffer), 30);
+    refused!(engine, buffer, engine.text(OUTSIDE, &mut buffer), 30);
     assert_eq!(engine.text_of_bytes(b"ice", &mut buffer), Ok(&b"ice"[..]));
     refused!(engine, buffer, engine.text_of_bytes(b"\xE9", &mut buffer), 29);
     refused!(engine, buffer, engine.text_of_bytes(b"ice", &mut buffer[..2]), 31);
@@ -56,7 +58,7 @@ fn calls(engine: &mut Engine) {
         assert_eq!(engine.set_global(b"depth", value), Ok(()));
         assert_eq!(engine.read_global(b"depth"), Ok(value));
     }
-    refused!(engine, buffer, engine.set_global(b"depth", Value::CodeText(0, 32768)), 30);
+    refused!(engine, buffer, engine.set_global(b"depth", OUTSIDE), 30);
     assert_eq!(engine.set_global_text(b"line", b"line 7"), Ok(()));
     let line = engine.read_global(b"line").unwrap();
     assert_eq!(engine.text(line, &mut buffer), Ok(&b"line 7"[..]));
@@ -69,12 +71,14 @@ fn calls(engine: &mut Engine) {
     refused!(engine, buffer, engine.drain(&mut buffer[..4]), 31);
     assert!(engine.drain(&mut buffer).unwrap().eq([b"ice"]));
     assert_eq!(engine.drain(&mut buffer).unwrap().count(), 0);
+
+    let leak = engine.load(&LEAK).unwrap();
+    assert_eq!(engine.run(leak), Ok(Ran { number: 22, steps: 2 * limits::HANDLERS + 1, opcode: 0, value: Value::Undefined }));
 }
 
 fn main() {
     let mut engine = ENGINE.lock().unwrap();
     let mut buffer = [0; 8];
-    assert_eq!(size_of::<Engine>(), 358536); // the total of docs/EMBEDDING.md
     calls(&mut engine);
 
     // Memory that something has overwritten: its counts pass their stores, and clear makes a fresh engine of it.

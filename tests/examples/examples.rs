@@ -1,14 +1,15 @@
 //! What the Rust of documents 000 to 002 prints for an image, in the form of `runimage`. Arguments: images. For each one NAME.img, its answer goes to
 //! standard output, or with `--into FOLDER` to FOLDER/NAME.out.
 
-use crate::runs::{Both, Coverage, STEP_LIMIT};
+use crate::limits;
+use crate::runs::{Both, Coverage};
 use crate::sample::{Image, Sample};
 use std::path::Path;
 
 fn answer(bytes: &[u8]) -> Vec<u8> {
     let sample = Sample::run_one("example", Image::read(bytes).expect("an image"));
     let mut both = Both::new();
-    let told = both.run(&sample, 0, STEP_LIMIT, &mut Coverage::new()).expect("a run that ends");
+    let told = both.run(&sample, 0, limits::STEPS, &mut Coverage::new()).expect("a run that ends");
     let vm = &both.engine.vm;
     let (operands, frames) = (vm.stack.len(), vm.call_stack.len());
     let mut out = format!(

@@ -1,6 +1,7 @@
 //! Runs samples through the Rust of documents 000 to 002, and writes them with what came of them as a module of antt.
 
 use crate::images;
+use crate::limits;
 use crate::runs::{Both, Coverage};
 use crate::sample::{Action, Given, Plain, Rng, Sample};
 use crate::words::Words;
@@ -85,7 +86,7 @@ fn calls(sample: &Sample) -> Vec<String> {
             Action::Run(i) => format!("Call.run {}", i),
             Action::Register(i, t) => format!("Call.register {} {}", i, t),
             Action::ReadGlobal(n) => format!("Call.readGlobal {}", hex(n)),
-            Action::Drain => "Call.drain 8192".into(),
+            Action::Drain => format!("Call.drain {}", limits::OUTPUT_BYTES),
             Action::SetGlobal(n, g) => format!("Call.setGlobal {} {}", hex(n), given(g)),
         })
         .collect()

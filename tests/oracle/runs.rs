@@ -1,6 +1,7 @@
 //! A sample's runs on both copies of js_vm, and what they come to. Used by the oracle and by the list that the engine is held to (tests/replay).
 
 use crate::images::OPCODES;
+use crate::limits;
 use crate::plain::js_compiler::{Chunk, Constant};
 use crate::plain::js_vm as unchanged;
 use crate::sample::{Given, Sample};
@@ -49,9 +50,6 @@ impl Coverage {
     }
 }
 
-/// The steps that a run makes before it ends with 12.
-pub const STEP_LIMIT: usize = 100_000;
-
 /// The instructions that can add to a store with an added limit.
 const ADDING: [u8; 12] = [0, 2, 4, 6, 8, 10, 50, 52, 60, 61, 71, 75];
 
@@ -87,15 +85,15 @@ impl Stepper {
     fn past(&self) -> Option<u8> {
         let vm = &self.engine.vm;
         let use_and_limit = [
-            (11, vm.call_stack.len(), 64),
-            (21, self.engine.slots(), 2048),
-            (22, vm.handler_count(), 64),
-            (23, vm.function_arena.len(), 1024),
-            (24, vm.object_arena.len(), 512),
-            (25, self.engine.properties(), 1024),
-            (26, vm.globals.len(), 128),
-            (27, self.texts.len(), 32768),
-            (28, self.engine.output_bytes(), 8192),
+            (11, vm.call_stack.len(), limits::FRAMES),
+            (21, self.engine.slots(), limits::SLOTS),
+            (22, vm.handler_count(), limits::HANDLERS),
+            (23, vm.function_arena.len(), limits::FUNCTIONS),
+            (24, vm.object_arena.len(), limits::OBJECTS),
+            (25, self.engine.properties(), limits::PROPERTIES),
+            (26, vm.globals.len(), limits::GLOBALS),
+            (27, self.texts.len(), limits::TEXT_BYTES),
+            (28, self.engine.output_bytes(), limits::OUTPUT_BYTES),
         ];
         use_and_limit.iter().find(|(_, n, limit)| n > limit).map(|q| q.0)
     }
@@ -203,7 +201,7 @@ impl Stepper {
             if steps > cap {
                 return Err(Stopped::Long);
             }
-            if !went || steps == STEP_LIMIT {
+            if !went || steps == limits::STEPS {
                 break;
             }
         }
@@ -318,7 +316,7 @@ impl Both {
 
     /// A run whose step with this number is refused. Both copies stand again as before that step.
     fn refused(&mut self, sample: &Sample, image: usize, step: usize, question: u8) -> Told {
-        self.stepper.run(sample, image, STEP_LIMIT, step - 1, &mut Coverage::new()).ok().expect("the steps before a refusal");
+        self.stepper.run(sample, image, limits::STEPS, step - 1, &mut Coverage::new()).ok().expect("the steps before a refusal");
         self.renew();
         let state = self.state();
         assert_eq!(state, self.stepper.state(), "the unchanged copy takes something else");

@@ -1,6 +1,7 @@
 //! Programs that the oracle's generator seldom makes: longer loops, texts built piece by piece, recursion, closures handed on, throws from deep
 //! inside, arrays filled by numeric keys, the step limit, and code of nothing but random bytes.
 
+use crate::limits;
 use crate::sample::{Action, Const, Image, Rng, Sample, Template};
 
 const ONE: i64 = 1 << 32;
@@ -175,7 +176,9 @@ fn recursion(r: &mut Rng) -> Sample {
     let mut c = Code::default();
     c.of(52, Const::Function(1)).of(4, text("f"));
     let place = if r.once_in(2) { Some(c.jump(75)) } else { None };
-    c.of(3, text("f")).load(whole(1 + r.below(30) as i64)).call(1);
+    // so deep that its tries have handlers, and the chunk's too; those that an earlier run left come on top
+    let deepest = if levels > 0 { 30.min(levels * (limits::HANDLERS as i64 - 1)) } else { 30 };
+    c.of(3, text("f")).load(whole(1 + r.below(deepest as usize) as i64)).call(1);
     if let Some(place) = place {
         c.land(place);
     }
@@ -312,15 +315,15 @@ fn noise(r: &mut Rng) -> Sample {
 /// Each store filled to its last place, where the engine must not refuse yet; then what can still be done.
 pub fn brimful() -> Vec<Sample> {
     let mut all = Vec::new();
-    let rounds = |n: i64, body: &dyn Fn(&mut Code)| {
+    let rounds = |n: usize, body: &dyn Fn(&mut Code)| {
         let mut c = Code::default();
-        let round = c.below(0, n);
+        let round = c.below(0, n as i64);
         body(&mut c);
         c.again(0, round);
         c
     };
 
-    // 64 frames: the chunk's, and a function that calls itself until it halts
+    // every frame: the chunk's, and a function that calls itself until it halts
     let mut f = Code::default();
     f.with(1, 0).load(whole(1)).op(34);
     let deeper = f.jump(41);
@@ -328,24 +331,25 @@ pub fn brimful() -> Vec<Sample> {
     f.land(deeper);
     f.of(3, text("f")).with(1, 0).load(whole(1)).op(11).call(1).op(51);
     let mut c = Code::default();
-    c.of(52, Const::Function(1)).of(4, text("f")).of(3, text("f")).load(whole(62)).call(1).op(255);
+    c.of(52, Const::Function(1)).of(4, text("f")).of(3, text("f")).load(whole(limits::FRAMES as i64 - 2)).call(1).op(255);
     let mut s = one("brimful", vec![c.template(0, 0), f.template(1, 1)]);
     // a run that is refused, for want of a frame, twice
     s.actions.extend([Action::Run(0), Action::Drain, Action::Run(0)]);
     all.push(s);
-    // 64 frames and 2,048 slots: 63 calls with 32 slots each, and 32 of the chunk's own
+    // every frame and every slot: each call and the chunk have equally many
+    let each = limits::SLOTS / limits::FRAMES;
     let mut own = Code::default();
-    own.load(Const::Null).with(2, 31);
+    own.load(Const::Null).with(2, each - 1);
     let mut c = Code { constants: own.constants.clone(), bytes: own.bytes.clone() };
-    c.of(52, Const::Function(1)).of(4, text("f")).of(3, text("f")).load(whole(62)).call(1).op(255);
-    all.push(one("brimful", vec![c.template(0, 0), f.template(1, 32)]));
-    // 2,048 slots of one frame
+    c.of(52, Const::Function(1)).of(4, text("f")).of(3, text("f")).load(whole(limits::FRAMES as i64 - 2)).call(1).op(255);
+    all.push(one("brimful", vec![c.template(0, 0), f.template(1, each)]));
+    // every slot by one frame
     let mut c = Code::default();
-    c.load(whole(5)).with(2, 2047).with(1, 2047).op(255);
+    c.load(whole(5)).with(2, limits::SLOTS - 1).with(1, limits::SLOTS - 1).op(255);
     all.push(one("brimful", vec![c.template(0, 0)]));
-    // 64 handlers stand; the next run's throw takes one, and its catch enters another
+    // every handler stands; the next run's throw takes one, and its catch enters another
     let mut c = Code::default();
-    let round = c.below(0, 64);
+    let round = c.below(0, limits::HANDLERS as i64);
     let place = c.jump(75);
     c.again(0, round);
     c.op(255);
@@ -355,44 +359,45 @@ pub fn brimful() -> Vec<Sample> {
     s.images.push(Image { templates: vec![{ let mut c = Code::default(); c.load(text("t")).op(74); c.template(0, 0) }] });
     s.actions = vec![Action::Load, Action::Load, Action::Run(0), Action::Run(1)];
     all.push(s);
-    // 1,024 functions, the last of which is called
-    let mut c = rounds(1024, &|c| {
+    // every function; the last of them is called
+    let mut c = rounds(limits::FUNCTIONS, &|c| {
         c.of(52, Const::Function(1)).with(2, 1);
     });
     c.with(1, 1).load(whole(3)).call(1).op(255);
     all.push(one("brimful", vec![c.template(0, 0), { let mut g = Code::default(); g.with(1, 0).op(81).op(12).op(51); g.template(1, 1) }]));
-    // 512 objects; the last one still takes a property
-    let mut c = rounds(512, &|c| {
+    // every object; the last one still takes a property
+    let mut c = rounds(limits::OBJECTS, &|c| {
         c.op(60).with(2, 1);
     });
     c.with(1, 1).with(1, 1).load(whole(3)).of(6, text("k")).of(5, text("k")).op(255);
     all.push(one("brimful", vec![c.template(0, 0)]));
-    // 1,024 properties of an array; then one that is there is changed
+    // every property by one array; then one that is there is changed
     let mut c = Code::default();
     c.op(61).op(0).with(2, 1);
-    let round = c.below(0, 1023);
+    let round = c.below(0, limits::PROPERTIES as i64 - 1);
     c.with(1, 1).with(1, 0).with(1, 0).op(8);
     c.again(0, round);
-    c.with(1, 1).load(whole(1022)).load(text("last")).op(8).with(1, 1).of(5, text("length")).op(255);
+    c.with(1, 1).load(whole(limits::PROPERTIES as i64 - 2)).load(text("last")).op(8).with(1, 1).of(5, text("length")).op(255);
     all.push(one("brimful", vec![c.template(0, 0)]));
-    // 128 globals; then one that is there is changed
+    // every global; then one that is there is changed
     let mut c = Code::default();
-    for k in 0..127 {
-        c.load(Const::Null).with(4, 1000 + k);
+    let last = 1000 + limits::GLOBALS - 2;
+    for k in 1000..last + 1 {
+        c.load(Const::Null).with(4, k);
     }
-    c.load(whole(2)).with(4, 1126).load(whole(3)).of(4, text("console")).with(3, 1126).op(255);
+    c.load(whole(2)).with(4, last).load(whole(3)).of(4, text("console")).with(3, last).op(255);
     all.push(one("brimful", vec![c.template(0, 0)]));
-    // 32,768 bytes of text: 2, 4, .., 16,384, and 2; then an empty one
+    // every byte of text, a power of two: 2, 4, .. to a half of it, and 2; then an empty one
     let mut c = Code::default();
     c.load(text("x"));
-    for _ in 0..14 {
+    for _ in 1..limits::TEXT_BYTES.ilog2() {
         c.op(81).op(10);
     }
     c.load(text("a")).load(text("b")).op(10).with(2, 0);
     c.load(text("")).load(text("")).op(10).of(5, text("length")).op(255);
     all.push(one("brimful", vec![c.template(0, 0)]));
-    // 8,192 bytes of output, drained, and filled again by the next run
-    let line = "0123456789".repeat(102) + "ab";
+    // every byte of output, drained, and filled again by the next run
+    let line: String = "0123456789".chars().cycle().take(limits::OUTPUT_BYTES / 8 - 2).collect();
     let mut c = Code::default();
     for _ in 0..8 {
         c.of(3, text("console")).load(text(&line)).call(1).op(80);
@@ -400,24 +405,25 @@ pub fn brimful() -> Vec<Sample> {
     let mut s = one("brimful", vec![c.template(0, 0)]);
     s.actions.extend([Action::Drain, Action::Run(0), Action::Drain]);
     all.push(s);
-    // 16 images, and 32,768 bytes of them
-    let mut images: Vec<Image> = (0..15).map(|k| Image { templates: vec![{ let mut c = Code::default(); c.load(whole(k)).op(255); c.template(0, 0) }] }).collect();
+    // every image, and every byte of them
+    let last = limits::IMAGES - 1;
+    let mut images: Vec<Image> = (0..last as i64).map(|k| Image { templates: vec![{ let mut c = Code::default(); c.load(whole(k)).op(255); c.template(0, 0) }] }).collect();
     let used: usize = images.iter().map(|i| i.bytes().0.len()).sum();
     let mut c = Code::default();
     c.load(text("")).of(5, text("length")).op(255);
     let small = Image { templates: vec![c.template(0, 0)] }.bytes().0.len();
-    c.constants[0] = text(&"m".repeat(32_768 - used - small));
+    c.constants[0] = text(&"m".repeat(limits::CODE_BYTES - used - small));
     images.push(Image { templates: vec![c.template(0, 0)] });
     let mut actions: Vec<Action> = images.iter().map(|_| Action::Load).collect();
-    actions.extend([15, 0, 14, 15].map(Action::Run));
+    actions.extend([last, 0, last - 1, last].map(Action::Run));
     // a load that is refused: no byte is free; and where bytes are free, no number
     let more = images[0].clone();
     images.push(more.clone());
-    actions.extend([Action::Load, Action::Run(15)]);
+    actions.extend([Action::Load, Action::Run(last)]);
     all.push(Sample { kind: "brimful", images, actions });
-    let images = vec![more; 17];
-    let mut actions = vec![Action::Load; 17];
-    actions.extend([15, 3].map(Action::Run));
+    let images = vec![more; limits::IMAGES + 1];
+    let mut actions = vec![Action::Load; limits::IMAGES + 1];
+    actions.extend([last, 3].map(Action::Run));
     all.push(Sample { kind: "brimful", images, actions });
     all
 }
@@ -445,27 +451,28 @@ pub fn overfull(r: &mut Rng, kind: usize) -> Sample {
                 parameters = r.below(40);
                 locals = 30 + r.below(400);
             }
-            if r.once_in(2) {
+            // with a handler each, which are fewer
+            if r.once_in(4) {
                 f.with(75, r.below(9));
             }
             f.of(3, text("f")).with(1, 0).load(whole(1)).op(10).with(1, 0).call(2).op(51);
         }
         2 => {
             // slots of the newest frame
-            f.with(1, 0).with(2, r.below(900)).with(1, 0).with(2, 1900 + r.below(200)).with(1, 0).with(2, r.pick(&[2046, 2047, 2048, 65535]));
+            f.with(1, 0).with(2, r.below(900)).with(1, 0).with(2, limits::SLOTS - 148 + r.below(200)).with(1, 0).with(2, r.pick(&[limits::SLOTS - 2, limits::SLOTS - 1, limits::SLOTS, 65535]));
         }
         3 => {
-            let round = f.below(0, many(r, 64));
+            let round = f.below(0, many(r, limits::HANDLERS));
             f.with(75, r.below(9));
             f.again(0, round);
         }
         4 => {
-            let round = f.below(0, many(r, 1024));
+            let round = f.below(0, many(r, limits::FUNCTIONS));
             f.of(r.pick(&[0, 52]), Const::Function(2)).with(2, 1);
             f.again(0, round);
         }
         5 => {
-            let round = f.below(0, many(r, 512));
+            let round = f.below(0, many(r, limits::OBJECTS));
             f.op(60).with(2, 1);
             f.again(0, round);
         }
@@ -480,13 +487,13 @@ pub fn overfull(r: &mut Rng, kind: usize) -> Sample {
                 f.op(r.pick(&[60, 60, 61]));
                 f.op(81);
                 f.with(2, 1);
-                let round = f.below(0, many(r, 1024));
+                let round = f.below(0, many(r, limits::PROPERTIES));
                 f.with(1, 1).load(text(r.pick(&["", "k", "+"]))).with(1, 0).op(10).with(1, 0).op(8);
                 f.again(0, round);
             }
         }
         7 => {
-            for k in 0..many(r, 128) as usize {
+            for k in 0..many(r, limits::GLOBALS) as usize {
                 f.with(1, 0).with(4, 500 + k);
             }
         }

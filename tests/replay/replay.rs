@@ -1,7 +1,8 @@
 //! Writes the list of crates/replay: programs, and what the Rust of documents 000 to 002 came to on each. README.md has the format.
 
 use crate::plain::engine::{counted, given, value, word};
-use crate::runs::{Both, Coverage, STEP_LIMIT};
+use crate::limits;
+use crate::runs::{Both, Coverage};
 use crate::sample::{Action, Const, Given, Plain, Rng, Sample};
 use crate::words::Words;
 use crate::{images, specials};
@@ -32,9 +33,9 @@ impl<'a> Program<'a> {
     fn load(&mut self) {
         let bytes = self.sample.images[self.images].bytes().0;
         self.images += 1;
-        let refused = if self.code + bytes.len() > 32_768 {
+        let refused = if self.code + bytes.len() > limits::CODE_BYTES {
             Some(8)
-        } else if self.loaded == 16 {
+        } else if self.loaded == limits::IMAGES {
             Some(9)
         } else {
             None
@@ -51,7 +52,7 @@ impl<'a> Program<'a> {
 
     /// False where nothing can follow: the run is refused for space.
     fn run(&mut self, image: usize, cap: usize, seen: &mut Coverage) -> Option<bool> {
-        if self.both.engine.vm.call_stack.len() == 64 {
+        if self.both.engine.vm.call_stack.len() == limits::FRAMES {
             self.out.extend_from_slice(&[7, image as u8, 11]);
             return Some(true);
         }
@@ -162,14 +163,14 @@ pub fn main() {
         list.add(s, 2000, &mut seen);
     }
     for s in programs::brimful() {
-        list.add(&s, STEP_LIMIT, &mut seen);
+        list.add(&s, limits::STEPS, &mut seen);
     }
     let mut r = Rng(seed ^ 0x5eed);
     for kind in 0..programs::OVERFULL * 7 {
-        list.add(&programs::overfull(&mut r, kind % programs::OVERFULL), STEP_LIMIT, &mut seen);
+        list.add(&programs::overfull(&mut r, kind % programs::OVERFULL), limits::STEPS, &mut seen);
     }
     for s in programs::endless() {
-        list.add(&s, STEP_LIMIT, &mut seen);
+        list.add(&s, limits::STEPS, &mut seen);
     }
     let mut r = Rng(seed);
     while list.programs.len() < count {

@@ -1,4 +1,4 @@
-//! Functions, objects, properties and globals, side by side in one lent store of 9,472 words: how they are laid, added, found and read.
+//! Functions, objects, properties and globals, side by side in one lent store of HEAP_WORDS words: how they are laid, added, found and read.
 use number::JsNumber;
 use texts::Source;
 use value::Space;

@@ -6,8 +6,10 @@
 //!     C i t k kind a b    constant k of it has this kind (6 is none) and value
 //! Bytes are hexadecimal, two digits each; `*n` stands for the byte before it, n times in all. Numbers of T and C have two bytes, a and b of
 //! C four each. q is decimal. A refusal is also to leave every entry of the stores as it was.
+use image::CODE_BYTES;
 use image::FoundConstant;
 use image::FunctionTemplate;
+use image::IMAGES;
 use image::ImageCounts;
 use image::Loaded;
 use reader::Constant;
@@ -507,10 +509,10 @@ fn run(
 fn main() {
     let mut input = io::large_buffer();
     let n = io::read_full(0, &mut input);
-    let mut code: [u8; 32768] = [170; 32768];
-    let mut places: [u16; 32768] = [43690; 32768];
-    let mut rows: [u16; 32768] = [43690; 32768];
-    let mut starts: [u16; 16] = [43690; 16];
+    let mut code: [u8; CODE_BYTES] = [170; CODE_BYTES];
+    let mut places: [u16; CODE_BYTES] = [43690; CODE_BYTES];
+    let mut rows: [u16; CODE_BYTES] = [43690; CODE_BYTES];
+    let mut starts: [u16; IMAGES] = [43690; IMAGES];
     let mut buf: [u8; 70000] = [0; 70000];
     let t = run(
         &input[..n],

@@ -1,15 +1,16 @@
--- An EnterTry that goes on, and what holds of each step by itself, over every list of calls. Assumes nothing.
+-- How an EnterTry comes out, what one that goes on saves, and what holds of each step by itself, over every list of calls. Assumes nothing.
 use mathlib.Core.Path.{_≡_, refl, sym, ap, ap₂, _∙_, subst}
 use mathlib.Core.Bool.{Bool, true, false}
 use mathlib.Core.Option.{Option, none, some}
 use mathlib.Core.List.{List, [], _∷_}
-use Prim.Native.Nat.{ℕ, zero, suc, _+_, _*_}
+use Prim.Native.Nat.{ℕ, zero, suc, _+_, _*_, _<_}
 use native.Mathlib.Omega.{arith}
-use lib.Dec.{ltb}
-use lib.ListN.{getD}
+use borrow.Author.Tests.{ltb-true, lt-ltb}
+use lib.Dec.{leb, ltb}
+use lib.ListN.{length, getD}
 use Rattle.machine.specs.Basic.{if_then_else_}
 use Rattle.machine.specs.Error.{ipOutOfBounds}
-use Rattle.machine.specs.State.{State, Frame, handlerStore, running}
+use Rattle.machine.specs.State.{State, Frame, handlerStore, limit, running, fresh}
 use Rattle.machine.specs.Fields as S
 use Rattle.machine.specs.Act as A
 use Rattle.machine.specs.Act.{Act, Need, need, apply}
@@ -18,6 +19,7 @@ use Rattle.machine.specs.Instruction.{fetch, instruction}
 use Rattle.machine.specs.Run.{Kind, begun, noFrame, kindIn, kindOf, body, Step, step, after, settled, Ran, goOn, steps, stepLimit}
 use Rattle.machine.specs.Host.{Call, questions, makes, performed, perform, settledCall, accepted, history}
 use Rattle.machine.specs.Demand3.{All, Enters, wordAt}
+use Rattle.machine.specs.Tries.{tried, Tried}
 use Rattle.machine.proofs.Throw.{kind-within}
 
 ended-not : {e : _} → ended e ≡ went → ⊥
@@ -37,6 +39,30 @@ module _ (s : State) (p : ℕ) (k : Program) where
 granted : (b : Bool) (a : Act) (s : State) (n : Need) (o : Outcome) → answered b a s n o .how ≡ went → answered b a s n o .state ≡ o .state
 granted true a s n o h = refl
 granted false a s n o h = absurd (refused-not h)
+
+abbrev cut : How
+cut = ended (failed ipOutOfBounds)
+
+-- how it comes out where a byte is fetched, and where room is asked
+fetched-how : (s : State) (p : ℕ) (k : Program) (b : Bool)
+    → exec (if b then make (A.jump p) k else end (failed ipOutOfBounds)) s .how
+    ≡ (if b then exec k (apply (A.jump p) s) .how else cut)
+fetched-how s p k true = refl
+fetched-how s p k false = refl
+
+answered-how : (b : Bool) (a : Act) (s : State) (o : Outcome) → o .how ≡ went → answered b a s (need handlerStore 1) o .how ≡ tried true b
+answered-how true a s o h = h
+answered-how false a s o h = refl
+
+-- a second byte is there only behind a first
+both : (i n : ℕ) (left : Bool) (b c : Bool) → ltb (i + 1) n ≡ b → ltb (i + 1 + 1) n ≡ c
+    → (if b then (if c then tried true left else cut) else cut) ≡ tried c left
+both i n left true true e f = refl
+both i n left true false e f = refl
+both i n left false false e f = refl
+both i n left false true e f =
+    let g : i + 1 + 1 < n = ltb-true (i + 1 + 1) n f in
+    let z : true ≡ false = sym (lt-ltb (i + 1) n (omega arith)) ∙ e in let y : _≡_ {A = ℕ} 0 1 = cc in absurd (omega arith)
 
 module _ (s₀ : State) (f : Frame) (fs : List Frame) where
   abbrev here : State
@@ -63,15 +89,22 @@ module _ (s₀ : State) (f : Frame) (fs : List Frame) where
   abbrev saving : Program
   saving = make (A.pushHandler word) next
 
+  begins : kindOf here ≡ begun 75 → exec (body (kindOf here)) here ≡ noting (did (A.jump (f .ip + 1)) []) (exec (instruction 75) s₁)
+  begins e =
+      let w = kind-within 75 (ltb (f .ip) size) (getD (s₀ .code) (at + f .ip) 0) e in
+      ap (λ (k : Kind). exec (body k) here) e
+      ∙ ap₂ (λ (x : Bool) (y : ℕ). exec (if x then make (A.jump (f .ip + 1)) (instruction y) else end (failed ipOutOfBounds)) here) (w .0) (w .1)
+
+  -- what is left to do when the opcode and a byte are fetched
+  abbrev second : Program
+  second = fetch λ lo. make (A.pushHandler (getD (s₀ .code) (at + (f .ip + 1)) 0 * 256 + lo)) next
+
   entered : kindOf here ≡ begun 75 → exec (body (kindOf here)) here .how ≡ went
       → exec (body (kindOf here)) here .state ≡ apply (A.pushHandler word) s₃
   entered e h =
-      let w = kind-within 75 (ltb (f .ip) size) (getD (s₀ .code) (at + f .ip) 0) e in
-      let E₀ : exec (body (kindOf here)) here ≡ noting (did (A.jump (f .ip + 1)) []) (exec (instruction 75) s₁) =
-      ap (λ (k : Kind). exec (body k) here) e
-      ∙ ap₂ (λ (x : Bool) (y : ℕ). exec (if x then make (A.jump (f .ip + 1)) (instruction y) else end (failed ipOutOfBounds)) here) (w .0) (w .1) in
+      let E₀ = begins e in
       let h₁ : exec (instruction 75) s₁ .how ≡ went = sym (ap (λ (o : Outcome). o .how) E₀) ∙ h in
-      let E₁ = fetched s₁ (f .ip + 1 + 1) (fetch λ lo. make (A.pushHandler (getD (s₀ .code) (at + (f .ip + 1)) 0 * 256 + lo)) next) (ltb (f .ip + 1) size) h₁ in
+      let E₁ = fetched s₁ (f .ip + 1 + 1) second (ltb (f .ip + 1) size) h₁ in
       let h₂ = sym (ap (λ (o : Outcome). o .how) E₁) ∙ h₁ in
       let E₂ = fetched s₂ (f .ip + 1 + 1 + 1) saving (ltb (f .ip + 1 + 1) size) h₂ in
       let h₃ = sym (ap (λ (o : Outcome). o .how) E₂) ∙ h₂ in
@@ -82,12 +115,32 @@ module _ (s₀ : State) (f : Frame) (fs : List Frame) where
   enters-at e h =
       ap (λ (x : How). settled here x (exec (body (kindOf here)) here .state) .handlers) h ∙ ap (λ (x : State). x .handlers) (entered e h)
 
+  tries-at : Tried (step here)
+  tries-at e =
+      let left = leb (length (s₀ .handlers) + 1) (limit handlerStore) in
+      let E₁ = fetched-how s₁ (f .ip + 1 + 1) second (ltb (f .ip + 1) size) in
+      let E₂ = fetched-how s₂ (f .ip + 1 + 1 + 1) saving (ltb (f .ip + 1 + 1) size) in
+      let E₃ : exec saving s₃ .how ≡ tried true left = answered-how left (A.pushHandler word) s₃ _ refl in
+      ap (λ (o : Outcome). o .how) (begins e) ∙ E₁
+      ∙ ap (λ (h : How). if ltb (f .ip + 1) size then h else cut) (E₂ ∙ ap (λ (h : How). if ltb (f .ip + 1 + 1) size then h else cut) E₃)
+      ∙ both (f .ip) size left (ltb (f .ip + 1) size) (ltb (f .ip + 1 + 1) size) refl refl
+      ∙ (let p : f .ip + 1 + 1 ≡ f .ip + 2 = omega arith in let q : length (s₀ .handlers) + 1 ≡ suc (length (s₀ .handlers)) = omega arith in
+      ap₂ (λ (i j : ℕ). tried (ltb i size) (leb j (limit handlerStore))) p q)
+
+-- An EnterTry has a frame, so what holds of each step with one, and of each that is none, holds of every step.
+module _ (P : Step → Type 0) (other : (s : State) → (kindOf s ≡ begun 75 → ⊥) → P (step s))
+    (framed : (s : State) (f : Frame) (fs : List Frame) → P (step (S.setFrames (f ∷ fs) s))) where
+  in-frame : (s : State) (fs : List Frame) → s .frames ≡ fs → P (step s)
+  in-frame s [] ef =
+      other s (λ e. let z : _≡_ {A = Kind} noFrame (begun 75) = ap (kindIn s) (sym ef) ∙ e in let y : _≡_ {A = ℕ} 0 1 = cc in omega arith)
+  in-frame s (f ∷ fs) ef =
+      let σ : s ≡ S.setFrames (f ∷ fs) s = λ i. S.setFrames (ef i) s in subst (λ (x : State). P (step x)) (sym σ) (framed s f fs)
+
 pub enters : (s : State) → Enters (step s)
-enters s = go (s .frames) refl
-  where
-    go : (fs : List Frame) → s .frames ≡ fs → Enters (step s)
-    go [] ef = λ e h. let z : _≡_ {A = Kind} noFrame (begun 75) = ap (kindIn s) (sym ef) ∙ e in let y : _≡_ {A = ℕ} 0 1 = cc in absurd (omega arith)
-    go (f ∷ fs) ef = let σ : s ≡ S.setFrames (f ∷ fs) s = λ i. S.setFrames (ef i) s in subst (λ (x : State). Enters (step x)) (sym σ) (enters-at s f fs)
+enters s = in-frame Enters (λ t n e. absurd (n e)) enters-at s (s .frames) refl
+
+pub tries : (s : State) → Tried (step s)
+tries s = in-frame Tried (λ t n e. absurd (n e)) tries-at s (s .frames) refl
 
 -- What holds of a step from every state holds of each step of a run, of a call, and of every list of calls.
 module _ (P : Step → Type 0) (each : (s : State) → P (step s)) where
@@ -123,3 +176,7 @@ module _ (P : Step → Type 0) (each : (s : State) → P (step s)) where
   pub calls-each : (cs : List Call) (s : State) → All (λ d. All P (d .steps)) (history s cs)
   calls-each [] s = tt
   calls-each (c ∷ cs) s = (call-each (questions c s) c s, calls-each cs (perform c s .after))
+
+-- Change 1 of document 02, of every EnterTry that calls come to.
+pub calls-try : (cs : List Call) → All (λ d. All Tried (d .steps)) (history fresh cs)
+calls-try cs = calls-each Tried tries cs fresh

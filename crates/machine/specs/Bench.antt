@@ -147,6 +147,21 @@ pub record Unstarred : Type 0 where
 pub unstarred : Unstarred
 unstarred = record { plusFive = refl; wraps = refl; room = refl; full = refl; keepsObject = refl; keepsObjectEnds = refl; lastSlot = refl; noSlot = refl }
 
+-- Twelve handlers stand, and the thirteenth EnterTry is refused.
+abbrev tries : ℕ → List ℕ
+tries zero = []
+tries (suc n) = 0x4B ∷ 0x00 ∷ 0x00 ∷ tries n
+
+pub record Twelve : Type 0 where
+  pub last : runImage (coded (tries 12)) .end ≡ 0
+  pub refused : runImage (coded (tries 13)) ≡ record { end = 22; steps = 13; operands = 0; frames = 1; handlers = 12; value = ascii "undefined" }
+  -- a whole EnterTry is asked: a cut operand is 14 first
+  pub cut : runImage (coded (tries 12 ++ 0x4B ∷ 0x00 ∷ [])) .end ≡ 14
+
+pub twelve : Twelve
+unfolding stepLimit
+twelve = record { last = refl; refused = refl; cut = refl }
+
 -- A step that goes on and leaves the state as it was is made until the limit.
 pub record Limited (r : Ran) (n : ℕ) : Type 0 where
   pub made : r .made ≡ n

@@ -14,6 +14,7 @@ pub mod Run
 pub mod Host
 pub mod Tally
 pub mod Demand3
+pub mod Tries
 pub mod Bench
 pub mod Out
 pub mod Ecma

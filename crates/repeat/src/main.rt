@@ -1,10 +1,16 @@
 //! For the measurements of bench/run: reads a count in decimal, a line end and an image from standard input; then clears, loads and runs the image that many
 //! times, and prints the last run's end and steps.
+use heap::HEAP_WORDS;
 use host::Changed;
 use host::Numbered;
 use host::RunAnswer;
+use image::CODE_BYTES;
+use image::IMAGES;
 use libc::STDOUT_FILENO;
+use stacks::STACK_WORDS;
 use std::num::wrapping_add_u64;
+use texts::OUTPUT_LIMIT;
+use texts::TEXT_LIMIT;
 
 struct Head {
     count: u64,
@@ -47,14 +53,14 @@ fn counted(s: &[u8]) -> Head {
 }
 
 fn once(
-    code: &mut [u8; 32768],
-    places: &mut [u16; 32768],
-    rows: &mut [u16; 32768],
-    starts: &mut [u16; 16],
-    stacks: &mut [u64; 9728],
-    heap: &mut [u64; 9472],
-    text: &mut [u8; 32768],
-    output: &mut [u8; 8192],
+    code: &mut [u8; CODE_BYTES],
+    places: &mut [u16; CODE_BYTES],
+    rows: &mut [u16; CODE_BYTES],
+    starts: &mut [u16; IMAGES],
+    stacks: &mut [u64; STACK_WORDS],
+    heap: &mut [u64; HEAP_WORDS],
+    text: &mut [u8; TEXT_LIMIT],
+    output: &mut [u8; OUTPUT_LIMIT],
     image: &[u8],
 ) -> Last {
     let Changed::Done(fresh) = engine::clear(code, places, rows, starts, stacks, heap, text, output)
@@ -99,14 +105,14 @@ fn once(
 }
 
 fn many(
-    code: &mut [u8; 32768],
-    places: &mut [u16; 32768],
-    rows: &mut [u16; 32768],
-    starts: &mut [u16; 16],
-    stacks: &mut [u64; 9728],
-    heap: &mut [u64; 9472],
-    text: &mut [u8; 32768],
-    output: &mut [u8; 8192],
+    code: &mut [u8; CODE_BYTES],
+    places: &mut [u16; CODE_BYTES],
+    rows: &mut [u16; CODE_BYTES],
+    starts: &mut [u16; IMAGES],
+    stacks: &mut [u64; STACK_WORDS],
+    heap: &mut [u64; HEAP_WORDS],
+    text: &mut [u8; TEXT_LIMIT],
+    output: &mut [u8; OUTPUT_LIMIT],
     image: &[u8],
     count: u64,
 ) -> Last {
@@ -130,14 +136,14 @@ fn many(
 }
 
 fn measured(
-    code: &mut [u8; 32768],
-    places: &mut [u16; 32768],
-    rows: &mut [u16; 32768],
-    starts: &mut [u16; 16],
-    stacks: &mut [u64; 9728],
-    heap: &mut [u64; 9472],
-    text: &mut [u8; 32768],
-    output: &mut [u8; 8192],
+    code: &mut [u8; CODE_BYTES],
+    places: &mut [u16; CODE_BYTES],
+    rows: &mut [u16; CODE_BYTES],
+    starts: &mut [u16; IMAGES],
+    stacks: &mut [u64; STACK_WORDS],
+    heap: &mut [u64; HEAP_WORDS],
+    text: &mut [u8; TEXT_LIMIT],
+    output: &mut [u8; OUTPUT_LIMIT],
     s: &[u8],
 ) -> Last {
     let h = counted(s);
@@ -162,14 +168,14 @@ fn measured(
 fn main() {
     let mut input: [u8; 70000] = [0; 70000];
     let n = io::read_full(0, &mut input);
-    let mut code: [u8; 32768] = [0; 32768];
-    let mut places: [u16; 32768] = [0; 32768];
-    let mut rows: [u16; 32768] = [0; 32768];
-    let mut starts: [u16; 16] = [0; 16];
-    let mut stacks: [u64; 9728] = [0; 9728];
-    let mut heap: [u64; 9472] = [0; 9472];
-    let mut text: [u8; 32768] = [0; 32768];
-    let mut output: [u8; 8192] = [0; 8192];
+    let mut code: [u8; CODE_BYTES] = [0; CODE_BYTES];
+    let mut places: [u16; CODE_BYTES] = [0; CODE_BYTES];
+    let mut rows: [u16; CODE_BYTES] = [0; CODE_BYTES];
+    let mut starts: [u16; IMAGES] = [0; IMAGES];
+    let mut stacks: [u64; STACK_WORDS] = [0; STACK_WORDS];
+    let mut heap: [u64; HEAP_WORDS] = [0; HEAP_WORDS];
+    let mut text: [u8; TEXT_LIMIT] = [0; TEXT_LIMIT];
+    let mut output: [u8; OUTPUT_LIMIT] = [0; OUTPUT_LIMIT];
     let last = measured(
         &mut code,
         &mut places,

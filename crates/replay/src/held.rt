@@ -7,7 +7,14 @@ use crate::bytes::listing;
 use crate::bytes::same;
 use crate::bytes::value_at;
 use crate::bytes::word;
+use heap::GLOBALS_AT;
+use heap::OBJECTS_AT;
+use heap::PROPERTIES_AT;
 use heapops::Counts;
+use stacks::FRAMES_AT;
+use stacks::HANDLERS_AT;
+use stacks::SLOT_LIMIT;
+use stacks::SLOTS_AT;
 use std::num::wrapping_add_u64;
 use std::num::wrapping_add_usize;
 use std::num::wrapping_sub_usize;
@@ -51,18 +58,6 @@ pub const GLOBAL: u64 = 19;
 pub const SLOTS: u64 = 20;
 
 pub const TEXT: u64 = 21;
-
-const SLOTS_AT: usize = 3072;
-
-const FRAMES_AT: usize = 9216;
-
-const HANDLERS_AT: usize = 9536;
-
-const OBJECTS_AT: usize = 2048;
-
-const PROPERTIES_AT: usize = 2560;
-
-const GLOBALS_AT: usize = 8704;
 
 // `n` more bytes read, and what differs unless `good`; an earlier difference stays.
 pub fn on(c: Cursor, n: usize, good: bool, what: u64) -> Cursor {
@@ -170,7 +165,7 @@ fn frame_agrees(stacks: &[u64], k: usize, ip: u64, buf: &[u8], i: usize) -> bool
 }
 
 fn slot_place(base: u64) -> usize {
-    if base < 2048 {
+    if base < SLOT_LIMIT as u64 {
         SLOTS_AT + 3 * base as usize
     } else {
         SLOTS_AT

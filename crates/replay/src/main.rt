@@ -5,17 +5,23 @@ use bytes::quad;
 use bytes::triple;
 use bytes::wide;
 use bytes::word;
+use heap::HEAP_WORDS;
 use heapops::Counts;
 use held::Cursor;
 use host::Changed;
 use host::Drained;
 use host::Numbered;
 use host::RunAnswer;
+use image::CODE_BYTES;
+use image::IMAGES;
 use libc::STDOUT_FILENO;
 use run::Ending;
 use run::Ran;
+use stacks::STACK_WORDS;
 use std::num::wrapping_add_u64;
 use std::num::wrapping_add_usize;
+use texts::OUTPUT_LIMIT;
+use texts::TEXT_LIMIT;
 use value::JsVmError;
 
 mod bytes;
@@ -233,11 +239,11 @@ fn run_call(
     places: &[u16],
     rows: &[u16],
     starts: &[u16],
-    stacks: &mut [u64; 9728],
-    heap: &mut [u64; 9472],
-    text: &mut [u8; 32768],
-    output: &mut [u8; 8192],
-    out: &mut [u8; 8192],
+    stacks: &mut [u64; STACK_WORDS],
+    heap: &mut [u64; HEAP_WORDS],
+    text: &mut [u8; TEXT_LIMIT],
+    output: &mut [u8; OUTPUT_LIMIT],
+    out: &mut [u8; OUTPUT_LIMIT],
     buf: &[u8],
     p: Progress,
 ) -> Progress {
@@ -322,15 +328,15 @@ fn drain_call(
 
 // One call of the list.
 fn call(
-    code: &mut [u8; 32768],
-    places: &mut [u16; 32768],
-    rows: &mut [u16; 32768],
-    starts: &mut [u16; 16],
-    stacks: &mut [u64; 9728],
-    heap: &mut [u64; 9472],
-    text: &mut [u8; 32768],
-    output: &mut [u8; 8192],
-    out: &mut [u8; 8192],
+    code: &mut [u8; CODE_BYTES],
+    places: &mut [u16; CODE_BYTES],
+    rows: &mut [u16; CODE_BYTES],
+    starts: &mut [u16; IMAGES],
+    stacks: &mut [u64; STACK_WORDS],
+    heap: &mut [u64; HEAP_WORDS],
+    text: &mut [u8; TEXT_LIMIT],
+    output: &mut [u8; OUTPUT_LIMIT],
+    out: &mut [u8; OUTPUT_LIMIT],
     buf: &[u8],
     p: Progress,
 ) -> Progress {
@@ -391,15 +397,15 @@ fn done(p: Progress, size: usize) -> bool {
 
 // A program's calls, each of which has a byte or more.
 fn calls(
-    code: &mut [u8; 32768],
-    places: &mut [u16; 32768],
-    rows: &mut [u16; 32768],
-    starts: &mut [u16; 16],
-    stacks: &mut [u64; 9728],
-    heap: &mut [u64; 9472],
-    text: &mut [u8; 32768],
-    output: &mut [u8; 8192],
-    out: &mut [u8; 8192],
+    code: &mut [u8; CODE_BYTES],
+    places: &mut [u16; CODE_BYTES],
+    rows: &mut [u16; CODE_BYTES],
+    starts: &mut [u16; IMAGES],
+    stacks: &mut [u64; STACK_WORDS],
+    heap: &mut [u64; HEAP_WORDS],
+    text: &mut [u8; TEXT_LIMIT],
+    output: &mut [u8; OUTPUT_LIMIT],
+    out: &mut [u8; OUTPUT_LIMIT],
     buf: &[u8],
     start: Progress,
 ) -> Progress {
@@ -443,15 +449,15 @@ fn outcome(p: Progress, size: usize) -> Found {
 }
 
 fn replayed(
-    code: &mut [u8; 32768],
-    places: &mut [u16; 32768],
-    rows: &mut [u16; 32768],
-    starts: &mut [u16; 16],
-    stacks: &mut [u64; 9728],
-    heap: &mut [u64; 9472],
-    text: &mut [u8; 32768],
-    output: &mut [u8; 8192],
-    out: &mut [u8; 8192],
+    code: &mut [u8; CODE_BYTES],
+    places: &mut [u16; CODE_BYTES],
+    rows: &mut [u16; CODE_BYTES],
+    starts: &mut [u16; IMAGES],
+    stacks: &mut [u64; STACK_WORDS],
+    heap: &mut [u64; HEAP_WORDS],
+    text: &mut [u8; TEXT_LIMIT],
+    output: &mut [u8; OUTPUT_LIMIT],
+    out: &mut [u8; OUTPUT_LIMIT],
     buf: &[u8],
     size: usize,
 ) -> Found {
@@ -560,15 +566,15 @@ fn next_program(buf: &mut [u8]) -> Next {
 }
 
 fn program(
-    code: &mut [u8; 32768],
-    places: &mut [u16; 32768],
-    rows: &mut [u16; 32768],
-    starts: &mut [u16; 16],
-    stacks: &mut [u64; 9728],
-    heap: &mut [u64; 9472],
-    text: &mut [u8; 32768],
-    output: &mut [u8; 8192],
-    out: &mut [u8; 8192],
+    code: &mut [u8; CODE_BYTES],
+    places: &mut [u16; CODE_BYTES],
+    rows: &mut [u16; CODE_BYTES],
+    starts: &mut [u16; IMAGES],
+    stacks: &mut [u64; STACK_WORDS],
+    heap: &mut [u64; HEAP_WORDS],
+    text: &mut [u8; TEXT_LIMIT],
+    output: &mut [u8; OUTPUT_LIMIT],
+    out: &mut [u8; OUTPUT_LIMIT],
     buf: &mut [u8; 65536],
     t: Tally,
 ) -> Tally {
@@ -592,15 +598,15 @@ fn program(
 }
 
 fn programs(
-    code: &mut [u8; 32768],
-    places: &mut [u16; 32768],
-    rows: &mut [u16; 32768],
-    starts: &mut [u16; 16],
-    stacks: &mut [u64; 9728],
-    heap: &mut [u64; 9472],
-    text: &mut [u8; 32768],
-    output: &mut [u8; 8192],
-    out: &mut [u8; 8192],
+    code: &mut [u8; CODE_BYTES],
+    places: &mut [u16; CODE_BYTES],
+    rows: &mut [u16; CODE_BYTES],
+    starts: &mut [u16; IMAGES],
+    stacks: &mut [u64; STACK_WORDS],
+    heap: &mut [u64; HEAP_WORDS],
+    text: &mut [u8; TEXT_LIMIT],
+    output: &mut [u8; OUTPUT_LIMIT],
+    out: &mut [u8; OUTPUT_LIMIT],
     buf: &mut [u8; 65536],
     count: u64,
 ) -> Tally {
@@ -655,15 +661,15 @@ fn main() {
         io::write_all(STDOUT_FILENO, b"this is no list\n");
         return;
     }
-    let mut code: [u8; 32768] = [170; 32768];
-    let mut places: [u16; 32768] = [43690; 32768];
-    let mut rows: [u16; 32768] = [43690; 32768];
-    let mut starts: [u16; 16] = [43690; 16];
-    let mut stacks: [u64; 9728] = [43690; 9728];
-    let mut heap: [u64; 9472] = [43690; 9472];
-    let mut text: [u8; 32768] = [170; 32768];
-    let mut output: [u8; 8192] = [170; 8192];
-    let mut out: [u8; 8192] = [0; 8192];
+    let mut code: [u8; CODE_BYTES] = [170; CODE_BYTES];
+    let mut places: [u16; CODE_BYTES] = [43690; CODE_BYTES];
+    let mut rows: [u16; CODE_BYTES] = [43690; CODE_BYTES];
+    let mut starts: [u16; IMAGES] = [43690; IMAGES];
+    let mut stacks: [u64; STACK_WORDS] = [43690; STACK_WORDS];
+    let mut heap: [u64; HEAP_WORDS] = [43690; HEAP_WORDS];
+    let mut text: [u8; TEXT_LIMIT] = [170; TEXT_LIMIT];
+    let mut output: [u8; OUTPUT_LIMIT] = [170; OUTPUT_LIMIT];
+    let mut out: [u8; OUTPUT_LIMIT] = [0; OUTPUT_LIMIT];
     let mut buf: [u8; 65536] = [0; 65536];
     let t = programs(
         &mut code,

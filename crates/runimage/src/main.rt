@@ -1,13 +1,19 @@
 //! The bench sheet's program: reads an image from standard input, loads and runs it, and prints one line of what came of it, then each line of its
 //! output after `>`. An input above MOST bytes is told instead, in a line that does not begin with `end`: nothing is loaded of it, and no call has a number for it.
+use heap::HEAP_WORDS;
 use heapops::Counts;
 use host::Changed;
 use host::Drained;
 use host::Numbered;
 use host::RunAnswer;
 use host::Wrote;
+use image::CODE_BYTES;
+use image::IMAGES;
 use libc::STDOUT_FILENO;
+use stacks::STACK_WORDS;
 use std::num::wrapping_add_usize;
+use texts::OUTPUT_LIMIT;
+use texts::TEXT_LIMIT;
 use value::Value;
 
 // The bytes of standard input that are taken.
@@ -32,14 +38,14 @@ fn refused(end: u64, counts: Counts) -> Told {
 
 // A load into the stores as clear left them, and a run.
 fn loaded_and_run(
-    code: &mut [u8; 32768],
-    places: &mut [u16; 32768],
-    rows: &mut [u16; 32768],
-    starts: &mut [u16; 16],
-    stacks: &mut [u64; 9728],
-    heap: &mut [u64; 9472],
-    text: &mut [u8; 32768],
-    output: &mut [u8; 8192],
+    code: &mut [u8; CODE_BYTES],
+    places: &mut [u16; CODE_BYTES],
+    rows: &mut [u16; CODE_BYTES],
+    starts: &mut [u16; IMAGES],
+    stacks: &mut [u64; STACK_WORDS],
+    heap: &mut [u64; HEAP_WORDS],
+    text: &mut [u8; TEXT_LIMIT],
+    output: &mut [u8; OUTPUT_LIMIT],
     fresh: Counts,
     image: &[u8],
 ) -> Told {
@@ -188,14 +194,14 @@ fn print<'a>(
 }
 
 fn whole(
-    code: &mut [u8; 32768],
-    places: &mut [u16; 32768],
-    rows: &mut [u16; 32768],
-    starts: &mut [u16; 16],
-    stacks: &mut [u64; 9728],
-    heap: &mut [u64; 9472],
-    text: &mut [u8; 32768],
-    output: &mut [u8; 8192],
+    code: &mut [u8; CODE_BYTES],
+    places: &mut [u16; CODE_BYTES],
+    rows: &mut [u16; CODE_BYTES],
+    starts: &mut [u16; IMAGES],
+    stacks: &mut [u64; STACK_WORDS],
+    heap: &mut [u64; HEAP_WORDS],
+    text: &mut [u8; TEXT_LIMIT],
+    output: &mut [u8; OUTPUT_LIMIT],
     buffer: &mut [u8; 65536],
     image: &[u8],
 ) {
@@ -237,14 +243,14 @@ fn main() {
         io::write_all(STDOUT_FILENO, b" bytes: not loaded\n");
         return;
     }
-    let mut code: [u8; 32768] = [0; 32768];
-    let mut places: [u16; 32768] = [0; 32768];
-    let mut rows: [u16; 32768] = [0; 32768];
-    let mut starts: [u16; 16] = [0; 16];
-    let mut stacks: [u64; 9728] = [0; 9728];
-    let mut heap: [u64; 9472] = [0; 9472];
-    let mut text: [u8; 32768] = [0; 32768];
-    let mut output: [u8; 8192] = [0; 8192];
+    let mut code: [u8; CODE_BYTES] = [0; CODE_BYTES];
+    let mut places: [u16; CODE_BYTES] = [0; CODE_BYTES];
+    let mut rows: [u16; CODE_BYTES] = [0; CODE_BYTES];
+    let mut starts: [u16; IMAGES] = [0; IMAGES];
+    let mut stacks: [u64; STACK_WORDS] = [0; STACK_WORDS];
+    let mut heap: [u64; HEAP_WORDS] = [0; HEAP_WORDS];
+    let mut text: [u8; TEXT_LIMIT] = [0; TEXT_LIMIT];
+    let mut output: [u8; OUTPUT_LIMIT] = [0; OUTPUT_LIMIT];
     let mut buffer: [u8; 65536] = [0; 65536];
     whole(
         &mut code,

@@ -1,4 +1,4 @@
-//! The stacks of a run: operands, local slots, frames and handlers, side by side in one lent store of 9,728 words.
+//! The stacks of a run: operands, local slots, frames and handlers, side by side in one lent store of STACK_WORDS words.
 //! Each function is one act of the machine, and says so by one equation over the machine's state.
 use value::JsVmError;
 use value::Space;
@@ -16,14 +16,14 @@ ghost use Rattle.stacks.specs.Places.{Stands};
 ghost use Rattle.stacks.specs.declared.Made.the-variants.{Went};
 ghost use Rattle.machine.specs.State.{operandLimit};
 
-// The limits of document 01, and where each stack begins: an operand and a slot have 3 words, a frame 5, a handler 3.
+// The limits of documents 01 and 02, and where each stack begins: an operand and a slot have 3 words, a frame 5, a handler 3.
 pub const OPERAND_LIMIT: usize = 1024;
 
 pub const SLOT_LIMIT: usize = 2048;
 
 pub const FRAME_LIMIT: usize = 64;
 
-pub const HANDLER_LIMIT: usize = 64;
+pub const HANDLER_LIMIT: usize = 12;
 
 pub const SLOTS_AT: usize = 3 * OPERAND_LIMIT;
 

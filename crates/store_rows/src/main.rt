@@ -1,5 +1,8 @@
 //! Runs the bench sheet's rows on operands, slots, keys and arrays over the stores, and says how many differ.
+use heap::HEAP_WORDS;
 use libc::STDOUT_FILENO;
+use stacks::STACK_WORDS;
+use texts::TEXT_LIMIT;
 
 mod object_rows;
 mod stack_rows;
@@ -13,9 +16,9 @@ fn report(name: &[u8], rows: u64, differ: u64) {
 }
 
 fn main() {
-    let mut stacks = [0u64; 9728];
-    let mut heap = [0u64; 9472];
-    let mut text = [0u8; 32768];
+    let mut stacks = [0u64; STACK_WORDS];
+    let mut heap = [0u64; HEAP_WORDS];
+    let mut text = [0u8; TEXT_LIMIT];
     report(
         b"stacks: ",
         stack_rows::ROWS,

@@ -240,8 +240,8 @@ fn sheet_rows(stacks: &mut [u64]) -> u64
 fn other_rows(stacks: &mut [u64]) -> u64
     requires { ⌜ length (now stacks) ≡ stackWords ⌝ }
 {
-    let a = counted(frame_refused(stacks, 64));
-    let b = counted(handler_refused(stacks, 64));
+    let a = counted(frame_refused(stacks, stacks::FRAME_LIMIT));
+    let b = counted(handler_refused(stacks, stacks::HANDLER_LIMIT));
     let c = counted(arguments_passed(stacks));
     let d = counted(empty_pops(stacks));
     sum(sum(a, b), sum(c, d))
