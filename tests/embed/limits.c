@@ -32,10 +32,9 @@ static void limit(const char *name, uint64_t most, uint64_t *count) {
 static void limits(void) {
     static const uint8_t jump[] = {0, 1, 0, 0, 0, 0, 0, 0, 0, 3, 0x28, 0, 0}; /* to itself */
     carderwheel_ran ran;
-    uint64_t n;
-    if (carderwheel_clear(&engine) != 0) differs("STACK_WORDS, .._HEAP_WORDS or another store's size");
-    if (carderwheel_load(&engine, jump, sizeof jump, &n) != 0) differs("CODE_BYTES");
-    ran = carderwheel_run(&engine, 0);
+    uint64_t n = 0;
+    if (carderwheel_clear(&engine) != 0 || carderwheel_load(&engine, jump, sizeof jump, &n) != 0) differs("STACK_WORDS, or the size of another store,");
+    ran = carderwheel_run(&engine, n);
     if (ran.number != 12 || ran.steps != CARDERWHEEL_STEPS) differs("STEPS");
 #define LIMIT(NAME, count) limit(#NAME, CARDERWHEEL_##NAME, &engine.counts.count)
     LIMIT(OPERANDS, operands);

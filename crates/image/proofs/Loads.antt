@@ -12,6 +12,7 @@ use lib.Seq.{paste, take-paste, take-length, drop-at, length-take-le, getD-set-s
 use borrow.Author.Tests.{leb-true, eqb-true}
 use Rattle.machine.specs.Image as I
 use Rattle.machine.specs.Image.{Template, Read, Reader, refused, got, _>>=_, after}
+use Rattle.machine.specs.State.{limit, codeStore, imageStore}
 use Rattle.machine.specs.Act.{templatesRead}
 use Rattle.machine.specs.Host.{refusalRead}
 use Rattle.reader.specs.Says.{Refuses}
@@ -88,19 +89,19 @@ all-four true false c d h = let z : _≡_ {A = ℕ} 0 1 = cc in absurd (omega ar
 all-four false b c d h = let z : _≡_ {A = ℕ} 0 1 = cc in absurd (omega arith)
 
 pub record Sizes (x : Stores) : Type 0 where
-  pub code : length (x .code) ≡ 32768
-  pub places : length (x .places) ≡ 32768
-  pub rows : length (x .rows) ≡ 32768
-  pub starts : length (x .starts) ≡ 16
+  pub code : length (x .code) ≡ limit codeStore
+  pub places : length (x .places) ≡ limit codeStore
+  pub rows : length (x .rows) ≡ limit codeStore
+  pub starts : length (x .starts) ≡ limit imageStore
 
 pub sizes : (x : Stores) → listed x ≡ true → Sizes x
 sizes x h =
-    let f = all-four (eqb (length (x .code)) 32768) (eqb (length (x .places)) 32768) (eqb (length (x .rows)) 32768) (eqb (length (x .starts)) 16) h in
+    let f = all-four (eqb (length (x .code)) (limit codeStore)) (eqb (length (x .places)) (limit codeStore)) (eqb (length (x .rows)) (limit codeStore)) (eqb (length (x .starts)) (limit imageStore)) h in
     record {
-      code = eqb-true (length (x .code)) 32768 (f .0);
-      places = eqb-true (length (x .places)) 32768 (f .1);
-      rows = eqb-true (length (x .rows)) 32768 (f .2);
-      starts = eqb-true (length (x .starts)) 16 (f .3);
+      code = eqb-true (length (x .code)) (limit codeStore) (f .0);
+      places = eqb-true (length (x .places)) (limit codeStore) (f .1);
+      rows = eqb-true (length (x .rows)) (limit codeStore) (f .2);
+      starts = eqb-true (length (x .starts)) (limit imageStore) (f .3);
     }
 
 space-by : (a b : Bool) → orElse (unless a 8) (unless b 9) ≡ none → (a ≡ true) × (b ≡ true)
@@ -108,10 +109,10 @@ space-by true true h = (refl, refl)
 space-by true false h = let z : _≡_ {A = ℕ} 0 1 = cc in absurd (omega arith)
 space-by false b h = let z : _≡_ {A = ℕ} 0 1 = cc in absurd (omega arith)
 
-pub fits : (c : ImageCounts) (n : ℕ) → spaceRefusal c n ≡ none → (c .code + n ≤ 32768) × (c .images + 1 ≤ 16)
+pub fits : (c : ImageCounts) (n : ℕ) → spaceRefusal c n ≡ none → (c .code + n ≤ limit codeStore) × (c .images + 1 ≤ limit imageStore)
 fits c n h =
-    let f = space-by (leb (c .code + n) 32768) (leb (c .images + 1) 16) h in
-    (leb-true (c .code + n) 32768 (f .0), leb-true (c .images + 1) 16 (f .1))
+    let f = space-by (leb (c .code + n) (limit codeStore)) (leb (c .images + 1) (limit imageStore)) h in
+    (leb-true (c .code + n) (limit codeStore) (f .0), leb-true (c .images + 1) (limit imageStore) (f .1))
 
 good-by : (y : Read (List Template)) → refusalRead y ≡ none → Taken y
 good-by (refused q) h = let z : _≡_ {A = ℕ} 0 1 = cc in absurd (omega arith)
@@ -145,7 +146,7 @@ module _ (x : Stores) (c : ImageCounts) (bs code′ : List ℕ) (fitting : Fitti
   abbrev end : ℕ
   end = c .code + length bs
 
-  room : (c .code + length bs ≤ 32768) × (c .images + 1 ≤ 16)
+  room : (c .code + length bs ≤ limit codeStore) × (c .images + 1 ≤ limit imageStore)
   room = fits c (length bs) (fitting .room)
 
   sized : Sizes x

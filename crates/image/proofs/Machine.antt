@@ -10,7 +10,7 @@ use lib.ListN.{length, take, getD, List·getD-append}
 use lib.Seq.{length-take-le}
 use Rattle.machine.specs.Image as I
 use Rattle.machine.specs.Image.{Template, Read, refused, got}
-use Rattle.machine.specs.State.{State}
+use Rattle.machine.specs.State.{State, limit, codeStore, imageStore}
 use Rattle.machine.specs.Act.{templatesRead}
 use Rattle.machine.specs.Fields.{setCode, setImages}
 use Rattle.machine.specs.Host.{refusalRead}
@@ -25,7 +25,7 @@ use Rattle.image.proofs.Lists.{list-length}
 
 -- What the machine's load does, by its answers.
 refused-by : (s : State) (bs : List ℕ) (x : Read (List Template)) (b d : Bool) (q : ℕ)
-    → I.image (length (s .code)) bs ≡ x → leb (length (s .code) + length bs) 32768 ≡ b → leb (length (s .images) + 1) 16 ≡ d
+    → I.image (length (s .code)) bs ≡ x → leb (length (s .code) + length bs) (limit codeStore) ≡ b → leb (length (s .images) + 1) (limit imageStore) ≡ d
     → orElse (refusalRead x) (orElse (unless b 8) (unless d 9)) ≡ some q
     → (perform (H.load bs) s .answer ≡ refusal q) × (perform (H.load bs) s .after ≡ s)
 refused-by s bs (refused p) b d q e f g h = let z : p ≡ q = cc in rw (e, z) (refl, refl)
@@ -34,7 +34,7 @@ refused-by s bs (got ts p r) true false q e f g h = let z : 9 ≡ q = cc in rw (
 refused-by s bs (got ts p r) true true q e f g h = let z : _≡_ {A = ℕ} 0 1 = cc in absurd (omega arith)
 
 accepted-by : (s : State) (bs : List ℕ) (x : Read (List Template)) (b d : Bool)
-    → I.image (length (s .code)) bs ≡ x → leb (length (s .code) + length bs) 32768 ≡ b → leb (length (s .images) + 1) 16 ≡ d
+    → I.image (length (s .code)) bs ≡ x → leb (length (s .code) + length bs) (limit codeStore) ≡ b → leb (length (s .images) + 1) (limit imageStore) ≡ d
     → orElse (refusalRead x) (orElse (unless b 8) (unless d 9)) ≡ none
     → (perform (H.load bs) s .answer ≡ numbered (length (s .images)))
     × (perform (H.load bs) s .after ≡ setCode (s .code ++ bs) (setImages (s .images ++ (templatesRead x ∷ [])) s))
@@ -56,14 +56,14 @@ module _ (x : Stores) (c : ImageCounts) (bs : List ℕ) (sound : Sound x c) (s :
       → (perform (H.load bs) (shown x c s) .answer ≡ refusal q) × (perform (H.load bs) (shown x c s) .after ≡ shown x c s)
   machine-refused q h =
       let t = shown x c s in
-      refused-by t bs (I.image (length (t .code)) bs) (leb (length (t .code) + length bs) 32768) (leb (length (t .images) + 1) 16) q refl refl refl
+      refused-by t bs (I.image (length (t .code)) bs) (leb (length (t .code) + length bs) (limit codeStore)) (leb (length (t .images) + 1) (limit imageStore)) q refl refl refl
       (rw (code-length, images-length x (c .images)) h)
 
   machine-done : (y : Stores) (d : ImageCounts) → loadRefusal true c bs ≡ none → Appends x y c bs d
       → (perform (H.load bs) (shown x c s) .answer ≡ numbered (c .images)) × (perform (H.load bs) (shown x c s) .after ≡ shown y d s)
   machine-done y d h a =
       let t = shown x c s in
-      let g = accepted-by t bs (I.image (length (t .code)) bs) (leb (length (t .code) + length bs) 32768) (leb (length (t .images) + 1) 16) refl refl refl
+      let g = accepted-by t bs (I.image (length (t .code)) bs) (leb (length (t .code) + length bs) (limit codeStore)) (leb (length (t .images) + 1) (limit imageStore)) refl refl refl
       (rw (code-length, images-length x (c .images)) h) in
       (g .0 ∙ ap numbered (images-length x (c .images)), g .1 ∙ rw (code-length, ← a .code, ← a .view sound))
 

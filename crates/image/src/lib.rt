@@ -13,7 +13,7 @@ ghost use mathlib.Core.Option.{some};
 ghost use Prim.Native.Nat.{ℕ, _+_, _*_, _≤_, _<_};
 ghost use lib.ListN.{length, getD, getElem?};
 ghost use lib.Seq.{paste};
-ghost use Rattle.machine.specs.State.{noTemplate};
+ghost use Rattle.machine.specs.State.{noTemplate, limit, codeStore};
 ghost use Rattle.reader.specs.Constants.{constantOf};
 ghost use Rattle.image.specs.View.{wordAt, wideAt, constantAt, constantsOf, imagesOf};
 ghost use Rattle.image.specs.Fills.{Fills, Small, Rowed, FillsOne, FillsAll, FillsImage};
@@ -54,7 +54,7 @@ pub enum FoundConstant {
 
 // n constants: the place of each goes into the table.
 fn fill_constants(s: &[u8], places: &mut [u16], c: Cursor, n: usize, own: u64, count: u64) -> Step
-    requires { ⌜ (c .at ≤ length (now s)) × (length (now s) ≤ 32768) × (length (now s) ≤ length (now places)) ⌝ }
+    requires { ⌜ (c .at ≤ length (now s)) × (length (now s) ≤ limit codeStore) × (length (now s) ≤ length (now places)) ⌝ }
     ensures { λ r. ⌜ Fills (now (s .entry)) (now (places .entry)) (now (places .exit)) (c .at) n own count r ⌝ }
 {
     let first = c.at;
@@ -99,7 +99,7 @@ fn fill_template(
     own: u64,
     count: u64,
 ) -> Step
-    requires { ⌜ (c .at ≤ length (now s)) × (length (now s) ≤ 32768) × (r ≤ c .at) ⌝ }
+    requires { ⌜ (c .at ≤ length (now s)) × (length (now s) ≤ limit codeStore) × (r ≤ c .at) ⌝ }
     requires { ⌜ (length (now s) ≤ length (now places)) × (length (now s) ≤ length (now rows)) ⌝ }
     ensures { λ res. ⌜ FillsOne (now (s .entry)) (now (places .entry)) (now (rows .entry)) (now (places .exit)) (now (rows .exit)) (c .at) r own count res ⌝ }
 {
@@ -129,7 +129,7 @@ fn fill_template(
 }
 
 fn fill_templates(s: &[u8], places: &mut [u16], rows: &mut [u16], c: Cursor, count: u64) -> Step
-    requires { ⌜ (c .at ≤ length (now s)) × (length (now s) ≤ 32768) ⌝ }
+    requires { ⌜ (c .at ≤ length (now s)) × (length (now s) ≤ limit codeStore) ⌝ }
     requires { ⌜ (length (now s) ≤ length (now places)) × (length (now s) ≤ length (now rows)) ⌝ }
     ensures { λ res. ⌜ FillsAll (now (s .entry)) (now (places .entry)) (now (rows .entry)) (now (places .exit)) (now (rows .exit)) (c .at) count res ⌝ }
 {
@@ -153,7 +153,7 @@ fn fill_templates(s: &[u8], places: &mut [u16], rows: &mut [u16], c: Cursor, cou
 
 // An image that starts at a place of the store: its template count, then its rows.
 fn fill_image(s: &[u8], places: &mut [u16], rows: &mut [u16], at: usize) -> Step
-    requires { ⌜ (at ≤ length (now s)) × (length (now s) ≤ 32768) ⌝ }
+    requires { ⌜ (at ≤ length (now s)) × (length (now s) ≤ limit codeStore) ⌝ }
     requires { ⌜ (length (now s) ≤ length (now places)) × (length (now s) ≤ length (now rows)) ⌝ }
     ensures { λ res. ⌜ FillsImage (now (s .entry)) (now (places .entry)) (now (rows .entry)) (now (places .exit)) (now (rows .exit)) at res ⌝ }
 {

@@ -10,7 +10,7 @@ use lib.ListN.{length, take, drop, length-append, length-drop, length-map}
 use Rattle.machine.specs.Basic.{if_then_else_, same, lowest, sum}
 use Rattle.machine.specs.Value.{Value, Text}
 use Rattle.machine.specs.State.{State, Bytes, bytes, Frame, Handler, Property, Name, console, kept, Global, array, Kind, bytesOf, nameBytes, isPair, isNamed, any, changeFirst, hasProperty, hasGlobal, nextText, fresh}
-use Rattle.machine.specs.State.{Store, codeStore, imageStore, frameStore, slotStore, handlerStore, functionStore, objectStore, propertyStore, globalStore, textStore, outputStore, used}
+use Rattle.machine.specs.State.{Store, codeStore, imageStore, frameStore, slotStore, handlerStore, functionStore, objectStore, propertyStore, globalStore, textStore, outputStore, used, operandLimit}
 use Rattle.machine.specs.Error.{JsVmError, stackOverflow, noCallFrame}
 use Rattle.machine.specs.Fields as S
 use Rattle.machine.specs.Act as A
@@ -73,7 +73,7 @@ pub record Sound (s : State) (t : Tally) : Type 0 where
   pub code : length (s .code) ≡ t .code
   pub images : length (s .images) ≡ t .images
   pub operands : length (s .operands) ≡ t .operands
-  pub few : length (s .operands) ≤ 1024
+  pub few : length (s .operands) ≤ operandLimit
   pub frames : Frames (s .frames) (s .slots) (t .frames)
   pub handlers : map savedBy (s .handlers) ≡ t .handlers
   pub saved : All (λ h. 1 ≤ h .frames) (s .handlers)
@@ -117,7 +117,7 @@ used-is outputStore s t r = r .output
 
 -- A part of the state changes, and the tally with it.
 module _ (s : State) (t : Tally) (r : Sound s t) where
-  with-operands : (vs : List Value) (n : ℕ) → length vs ≡ n → length vs ≤ 1024 → Sound (S.setOperands vs s) (T.tallyOperands n t)
+  with-operands : (vs : List Value) (n : ℕ) → length vs ≡ n → length vs ≤ operandLimit → Sound (S.setOperands vs s) (T.tallyOperands n t)
   with-operands vs n e l = record {
     code = r .code;
     images = r .images;
@@ -380,8 +380,8 @@ all-rest : {X : Type 0} (P : X → Type 0) (xs : List X) → All P xs → All P 
 all-rest P [] p = tt
 all-rest P (x ∷ xs) p = p .1
 
-pub push-room : (vs : List Value) (b : Bool) → ltb (length vs) 1024 ≡ b → _≡_ {A = Option JsVmError} (if b then none else some stackOverflow) none → length vs < 1024
-push-room vs true q e = ltb→lt (length vs) 1024 (rw q tt)
+pub push-room : (vs : List Value) (b : Bool) → ltb (length vs) operandLimit ≡ b → _≡_ {A = Option JsVmError} (if b then none else some stackOverflow) none → length vs < operandLimit
+push-room vs true q e = ltb→lt (length vs) operandLimit (rw q tt)
 push-room vs false q e = let z : _≡_ {A = ℕ} 0 1 = cc in omega arith
 
 handler-room : (fs : List Frame) → A.orElse noCallFrame fs ≡ none → 1 ≤ length fs
@@ -409,7 +409,7 @@ sound-unwind (h ∷ hs) s t a r =
 
 pub sound : (a : Act) (s : State) (t : Tally) → error a s ≡ none → Sound s t → Sound (apply a s) (count a t)
 sound (A.push v) s t e r =
-    let h = push-room (s .operands) (ltb (length (s .operands)) 1024) refl e in let q = r .operands in
+    let h = push-room (s .operands) (ltb (length (s .operands)) operandLimit) refl e in let q = r .operands in
     with-operands s t r (v ∷ s .operands) (t .operands + 1) (omega arith) (omega arith)
 sound A.drop s t e r =
     let h = length-rest (s .operands) in let q = r .operands in let l = r .few in

@@ -10,7 +10,7 @@ use lib.ListN.{length, getD, drop, length-drop}
 use Rattle.machine.specs.Basic.{if_then_else_, lowest}
 use Rattle.machine.specs.Value.{Value}
 use Rattle.machine.specs.Error.{JsVmError, ipOutOfBounds, stackOverflow}
-use Rattle.machine.specs.State.{State, Frame, Handler, running, setIp, topAt}
+use Rattle.machine.specs.State.{State, Frame, Handler, running, setIp, topAt, operandLimit}
 use Rattle.machine.specs.Fields as S
 use Rattle.machine.specs.Act as A
 use Rattle.machine.specs.Act.{apply, error}
@@ -77,16 +77,16 @@ is-true : (b : Bool) → T b → b ≡ true
 is-true true t = refl
 is-true false t = absurd t
 
-room : (vs : List Value) (n : ℕ) → suc (length vs) ≤ 1024 → _≡_ {A = Option JsVmError} (if ltb (length (lowest n vs)) 1024 then none else some stackOverflow) none
+room : (vs : List Value) (n : ℕ) → suc (length vs) ≤ operandLimit → _≡_ {A = Option JsVmError} (if ltb (length (lowest n vs)) operandLimit then none else some stackOverflow) none
 room vs n l =
-    let k : length (lowest n vs) < 1024 = let q = length-drop (length vs - n) vs in omega arith in
-    rw (is-true (ltb (length (lowest n vs)) 1024) (lt→ltb (length (lowest n vs)) 1024 k))
+    let k : length (lowest n vs) < operandLimit = let q = length-drop (length vs - n) vs in omega arith in
+    rw (is-true (ltb (length (lowest n vs)) operandLimit) (lt→ltb (length (lowest n vs)) operandLimit k))
 
 module _ (s : State) (f : Frame) (fs : List Frame) (v : Value) (vs : List Value) (h : Handler) (hs : List Handler) where
   abbrev throwing : State
   throwing = S.setOperands (v ∷ vs) (S.setHandlers (h ∷ hs) (S.setFrames (f ∷ fs) s))
 
-  outcome : suc (length vs) ≤ 1024 → kindOf throwing ≡ begun 74
+  outcome : suc (length vs) ≤ operandLimit → kindOf throwing ≡ begun 74
       → exec (body (kindOf throwing)) throwing ≡ noting (did (A.jump (f .ip + 1)) []) (pushing throwing f fs v vs h none)
   outcome l e =
       let w = kind-within 74 (ltb (f .ip) (running throwing f .size)) (getD (s .code) (running throwing f .at + f .ip) 0) e in
@@ -95,7 +95,7 @@ module _ (s : State) (f : Frame) (fs : List Frame) (v : Value) (vs : List Value)
       ∙ ap (λ (o : Outcome). noting (did (A.jump (f .ip + 1)) []) o) (thrown s f fs v vs h hs)
       ∙ ap (λ (x : Option JsVmError). noting (did (A.jump (f .ip + 1)) []) (pushing throwing f fs v vs h x)) (room vs (h .operands) l)
 
-  caught : suc (length vs) ≤ 1024 → 1 ≤ h .frames → kindOf throwing ≡ begun 74 → Caught (step throwing) v vs (savedBy h) (map savedBy hs)
+  caught : suc (length vs) ≤ operandLimit → 1 ≤ h .frames → kindOf throwing ≡ begun 74 → Caught (step throwing) v vs (savedBy h) (map savedBy hs)
   caught l g e =
       let E = outcome l e in
       let k = frames-left (f .ip + 1) (h .catch) f fs (suc (length fs) - h .frames) (omega arith) in

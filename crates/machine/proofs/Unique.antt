@@ -16,7 +16,7 @@ use Rattle.machine.specs.Convert.{worth, arrayKey, lengthKey, lengthFloo
 use Rattle.machine.specs.Value as M
 use Rattle.machine.specs.Value.{Value}
 use Rattle.machine.specs.Image.{Constant}
-use Rattle.machine.specs.State.{State, bytes, Frame, Handler, Function, Kind, ordinary, array, Property, Global, fresh, property, isPair, isNamed, any, hasProperty, running}
+use Rattle.machine.specs.State.{State, bytes, Frame, Handler, Function, Kind, ordinary, array, Property, Global, fresh, property, isPair, isNamed, any, hasProperty, running, limit, propertyStore}
 use Rattle.machine.specs.Act as A
 use Rattle.machine.specs.Act.{Act, apply, needs}
 use Rattle.machine.specs.Program.{Program, next, end, look, make, End, How, fits, exec}
@@ -112,7 +112,7 @@ worth-onto (suc k) n bs h = go (ltb n 10) refl (worth-onto k (n / 10) ((48 + n %
         let z : n / 10 * 10 + n % 10 ≡ n = omega arith in
         f (omega arith) ∙ digit (n / 10) (n % 10) bs (omega arith) ∙ rw z
 
-worth-decimal : (i : ℕ) → i < 1024 → worth 0 (N.decimal i) ≡ some i
+worth-decimal : (i : ℕ) → i < limit propertyStore → worth 0 (N.decimal i) ≡ some i
 worth-decimal i h = worth-onto 20 i [] (omega arith) ∙ rw (lt-ltb i (2 ^ 64) (omega arith))
 
 -- The tally
@@ -165,7 +165,7 @@ Below o i p = p .object ≡ o → Less i (worth 0 (p .key))
 below-new : (o i : ℕ) (k : List ℕ) → (Less i (worth 0 k) → ⊥) → (ps : List Pair) → All (Below o i) ps → New (pair o k) ps
 below-new o i k f = all-map (Below o i) (λ p. p ≡ pair o k → ⊥) (λ p b e. f (subst (Below o i) e b refl))
 
-single-elements : (o i : ℕ) (vs : List Value) (t : Tally) → o < t .objects → i + length vs ≤ 1024 → All (Below o i) (t .pairs) → Single t
+single-elements : (o i : ℕ) (vs : List Value) (t : Tally) → o < t .objects → i + length vs ≤ limit propertyStore → All (Below o i) (t .pairs) → Single t
     → Single (T.addPairs o (A.elements i vs) t)
 single-elements o i [] t l m b u = single-pair t u o lengthKey l (below-new o i lengthKey (λ z. z) (t .pairs) b)
 single-elements o i (v ∷ vs) t l m b u =
@@ -231,7 +231,7 @@ keep-object s t f r u = single-object t u
 
 keep-array : (vs : List Value) (s : State) → Keeps (A.addArray vs) s
 keep-array vs s t f r u =
-    let l : length (s .properties) + (length vs + 1) ≤ 1024 = leb-true _ _ (f .1 .0) in
+    let l : length (s .properties) + (length vs + 1) ≤ limit propertyStore = leb-true _ _ (f .1 .0) in
     single-elements (t .objects) 0 vs (T.tallyObjects (t .objects + 1) t) (omega arith) (omega arith)
     (all-map (λ p. p .object < t .objects) (Below (t .objects) 0) (λ p h e. absurd (omega arith)) (t .pairs) (u .owners)) (single-object t u)
 
