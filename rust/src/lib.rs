@@ -54,6 +54,38 @@ pub struct Ran {
     pub value: Value,
 }
 
+/// How much of each store is in use. [`limits`] has the most.
+#[repr(C)]
+#[derive(Clone, Copy, Debug, PartialEq, Eq)]
+pub struct Counts {
+    /// of [`limits::OPERANDS`]
+    pub operands: usize,
+    /// of [`limits::SLOTS`]
+    pub slots: usize,
+    /// of [`limits::FRAMES`]
+    pub frames: usize,
+    /// of [`limits::HANDLERS`]
+    pub handlers: usize,
+    /// the place of the newest frame in its code, 0 where none stands
+    pub ip: usize,
+    /// of [`limits::FUNCTIONS`]
+    pub functions: usize,
+    /// of [`limits::OBJECTS`]
+    pub objects: usize,
+    /// of [`limits::PROPERTIES`]
+    pub properties: usize,
+    /// of [`limits::GLOBALS`]
+    pub globals: usize,
+    /// of [`limits::CODE_BYTES`]
+    pub code: usize,
+    /// of [`limits::IMAGES`]
+    pub images: usize,
+    /// of [`limits::TEXT_BYTES`]
+    pub text: usize,
+    /// of [`limits::OUTPUT_BYTES`]
+    pub output: usize,
+}
+
 /// An engine, with all memory that it uses.
 pub struct Engine {
     counts: Counts,
@@ -90,17 +122,6 @@ struct Words {
     kind: u64,
     first: u64,
     second: u64,
-}
-
-#[repr(C)]
-#[derive(Clone, Copy)]
-struct Counts {
-    stacks: [usize; 5],
-    heap: [usize; 4],
-    code: usize,
-    images: usize,
-    text: usize,
-    output: usize,
 }
 
 #[repr(C)]
@@ -218,7 +239,21 @@ impl Engine {
     /// The stores, all zero. [`Engine::clear`] comes before the first use.
     pub const fn zeroed() -> Engine {
         Engine {
-            counts: Counts { stacks: [0; 5], heap: [0; 4], code: 0, images: 0, text: 0, output: 0 },
+            counts: Counts {
+                operands: 0,
+                slots: 0,
+                frames: 0,
+                handlers: 0,
+                ip: 0,
+                functions: 0,
+                objects: 0,
+                properties: 0,
+                globals: 0,
+                code: 0,
+                images: 0,
+                text: 0,
+                output: 0,
+            },
             stacks: [0; STACK_WORDS],
             heap: [0; HEAP_WORDS],
             places: [0; CODE_BYTES],
@@ -242,6 +277,11 @@ impl Engine {
         // never refused: it asks for the stores' sizes, which an engine has, and for no counts
         let a = call!(carderwheel_clear_in, self.as_mut_ptr());
         self.counts = a.counts;
+    }
+
+    /// How much of each store is in use.
+    pub fn counts(&self) -> Counts {
+        self.counts
     }
 
     /// The image's number; images are numbered from 0 in the order of loading.

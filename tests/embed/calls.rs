@@ -1,6 +1,6 @@
 //! Every call of the Rust type, accepted and refused, with the numbers of document 01; and that a refused call alters nothing. Prints nothing where all
 //! is well.
-use carderwheel::{limits, Engine, Ran, Refusal, Value, CODE_BYTES, OUTPUT_BYTES};
+use carderwheel::{limits, Counts, Engine, Ran, Refusal, Value, CODE_BYTES, OUTPUT_BYTES};
 use std::sync::Mutex;
 
 // Document 01's sample: a throw of 7 that is caught; a chunk whose only byte is no opcode, with an empty template after it; one that prints `ice` by a
@@ -34,6 +34,7 @@ macro_rules! refused {
 fn calls(engine: &mut Engine) {
     let mut buffer = [0; OUTPUT_BYTES];
     engine.clear();
+    assert_eq!(engine.counts(), Counts { globals: 1, ..Engine::zeroed().counts() });
     refused!(engine, buffer, engine.load(&[]), 1);
     assert_eq!(engine.load(&SAMPLE), Ok(0));
     assert_eq!(engine.load(&UNKNOWN), Ok(1));
@@ -74,6 +75,7 @@ fn calls(engine: &mut Engine) {
 
     let leak = engine.load(&LEAK).unwrap();
     assert_eq!(engine.run(leak), Ok(Ran { number: 22, steps: 2 * limits::HANDLERS + 1, opcode: 0, value: Value::Undefined }));
+    assert_eq!((engine.counts().handlers, engine.counts().ip), (limits::HANDLERS, 0));
 }
 
 fn main() {

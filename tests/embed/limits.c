@@ -81,6 +81,8 @@ static void document(void) {
     printf("at most %s bytes for a drain, %s for a value's text\n", n(CARDERWHEEL_OUTPUT_BYTES), n(CARDERWHEEL_TEXT_BYTES));
     printf("Have %s bytes free for a call\n", n(CARDERWHEEL_CALL_STACK));
     printf("a run makes at most %s steps\n", n(CARDERWHEEL_STEPS));
+    printf("After %s such runs the next is refused with 11.\n", n(CARDERWHEEL_FRAMES));
+    printf("the next after %s ends with 22.\n", n(CARDERWHEEL_HANDLERS));
     printf("| 9 | load: %s images are loaded |\n", n(CARDERWHEEL_IMAGES));
     printf("| 11 | run, not started: %s frames stand |\n", n(CARDERWHEEL_FRAMES));
     printf("| 11 | run, started: %s calls deep |\n", n(CARDERWHEEL_FRAMES));
