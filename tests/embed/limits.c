@@ -33,7 +33,10 @@ static void limits(void) {
     static const uint8_t jump[] = {0, 1, 0, 0, 0, 0, 0, 0, 0, 3, 0x28, 0, 0}; /* to itself */
     carderwheel_ran ran;
     uint64_t n = 0;
-    if (carderwheel_clear(&engine) != 0 || carderwheel_load(&engine, jump, sizeof jump, &n) != 0) differs("STACK_WORDS, or the size of another store,");
+    if (carderwheel_clear(&engine) != 0 || carderwheel_load(&engine, jump, sizeof jump, &n) != 0) {
+        differs("STACK_WORDS, or the size of another store,");
+        return;
+    }
     ran = carderwheel_run(&engine, n);
     if (ran.number != 12 || ran.steps != CARDERWHEEL_STEPS) differs("STEPS");
 #define LIMIT(NAME, count) limit(#NAME, CARDERWHEEL_##NAME, &engine.counts.count)
