@@ -15,6 +15,7 @@ typedef struct world {
 } world;
 
 static world now, before;
+static uint64_t more[CARDERWHEEL_STACK_WORDS + 3]; /* stacks with room for a handler more */
 static int wrong;
 
 #define SAME(a, b)                                                                                                     \
@@ -142,6 +143,12 @@ static void calls(void) {
                              CARDERWHEEL_TEXT_BYTES, now.engine.output, CARDERWHEEL_OUTPUT_BYTES, now.engine.counts);
     SAME(a.number, 33);
     SAME(a.counts.globals, 3);
+    SAME(memcmp(&now, &before, sizeof now), 0);
+    /* a larger one too, as that of an engine with more handlers */
+    a = carderwheel_clear_in(now.engine.code, CARDERWHEEL_CODE_BYTES, now.engine.places, CARDERWHEEL_CODE_BYTES, now.engine.rows, CARDERWHEEL_CODE_BYTES,
+                             now.engine.starts, CARDERWHEEL_IMAGES, more, sizeof more / 8, now.engine.heap, CARDERWHEEL_HEAP_WORDS, now.engine.text,
+                             CARDERWHEEL_TEXT_BYTES, now.engine.output, CARDERWHEEL_OUTPUT_BYTES, now.engine.counts);
+    SAME(a.number, 33);
     SAME(memcmp(&now, &before, sizeof now), 0);
     SAME(carderwheel_clear(&now.engine), 0);
     SAME(now.engine.counts.globals, 1);
