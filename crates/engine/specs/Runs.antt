@@ -39,7 +39,7 @@ use Rattle.host.specs.Calls.{lent, storesOf, imageCounts, Called}
 use Rattle.host.specs.Lent.{Lent, lent-by, lent-lengths, lent-within, whole-lent, images-length}
 use Rattle.host.specs.Performs.{Comes, comes-failed, comes-went, called-no, called-full, called-refused, called-sure}
 
-limit-is : R.stepLimit ≡ 100000
+limit-is : R.stepLimit ≡ R.maxSteps
 unfolding R.stepLimit
 limit-is = refl
 
@@ -142,7 +142,7 @@ module _ {c : Counts} {g : Tables} {m : Mem} (i : ℕ) (e : Lent c g m) where
       pub start-whole : {a : Counts} → a ≡ withDepths d c → Whole a g (withStacks w m) (groundOf a g)
       start-whole q = subst (λ (x : Counts). Whole x g (withStacks w m) (groundOf x g)) (sym q) whole-start
 
-      ran-from : (x : Ran) {m′ : Mem} → (Unique (stateIn (withDepths d c) g (withStacks w m)) → ranOf x (withDepths d c) g m′ ≡ runOf 100000 0 (stateIn (withDepths d c) g (withStacks w m))) → Leaves (withDepths d c) (x .counts) g m′
+      ran-from : (x : Ran) {m′ : Mem} → (Unique (stateIn (withDepths d c) g (withStacks w m)) → ranOf x (withDepths d c) g m′ ≡ runOf R.maxSteps 0 (stateIn (withDepths d c) g (withStacks w m))) → Leaves (withDepths d c) (x .counts) g m′
           → Called (H.run i) c g m (H.ran (resultOf (x .end)) (x .steps)) (x .counts) g m′
       ran-from x {m′} t l =
           let p : Unique (stateIn c g m) → Comes (H.run i) (stateIn c g m) (H.ran (resultOf (x .end)) (x .steps)) (ranOf x (withDepths d c) g m′ .state) = λ z. run-went i (stateIn c g m) found (stateIn (withDepths d c) g (withStacks w m)) (ranOf x (withDepths d c) g m′) goes
@@ -151,7 +151,7 @@ module _ {c : Counts} {g : Tables} {m : Mem} (i : ℕ) (e : Lent c g m) where
           called-sure e refl (λ z. (p z .0, p z .1 ∙ sym (ap (λ (y : ImageCounts). stateOf (x .counts) m′ (ground-of y g)) ic)))
           (lent-again e l refl refl) (λ s. subst (λ (y : ImageCounts). Sound (storesOf g) y) (sym ic) s) (λ z. l .placed)
 
-      pub start-ran : {a : Counts} (x : Ran) {m′ : Mem} → a ≡ withDepths d c → (Unique (stateIn a g (withStacks w m)) → ranOf x a g m′ ≡ runOf 100000 0 (stateIn a g (withStacks w m))) → Leaves a (x .counts) g m′
+      pub start-ran : {a : Counts} (x : Ran) {m′ : Mem} → a ≡ withDepths d c → (Unique (stateIn a g (withStacks w m)) → ranOf x a g m′ ≡ runOf R.maxSteps 0 (stateIn a g (withStacks w m))) → Leaves a (x .counts) g m′
           → Called (H.run i) c g m (H.ran (resultOf (x .end)) (x .steps)) (x .counts) g m′
       start-ran {a} x {m′} q t l =
-          ran-from x (subst (λ (y : Counts). Unique (stateIn y g (withStacks w m)) → ranOf x y g m′ ≡ runOf 100000 0 (stateIn y g (withStacks w m))) q t) (subst (λ (y : Counts). Leaves y (x .counts) g m′) q l)
+          ran-from x (subst (λ (y : Counts). Unique (stateIn y g (withStacks w m)) → ranOf x y g m′ ≡ runOf R.maxSteps 0 (stateIn y g (withStacks w m))) q t) (subst (λ (y : Counts). Leaves y (x .counts) g m′) q l)

@@ -110,5 +110,9 @@ steps (suc k) n s =
     stepped t (goOn (t .outcome .how) (n + 1) s′ r)
 
 -- `max_steps`
+abbrev pub maxSteps : ℕ
+maxSteps = 100000
+
+-- the same, shut: no proof counts it down
 unfoldable pub stepLimit : ℕ
-stepLimit = 100000
+stepLimit = maxSteps

@@ -101,7 +101,7 @@ question globalStore = 26
 question textStore = 27
 question outputStore = 28
 
--- Document 01, "Stores lent to the engine".
+-- Document 01, "Stores lent to the engine"; the handlers by change 1 of document 02.
 abbrev pub limit : Store → ℕ
 limit codeStore = 32768
 limit imageStore = 16

@@ -17,6 +17,7 @@ use Rattle.number.specs.declared.JsNumber.{JsNumber}
 use Rattle.value.specs.Words.{valueAt, decodeOf, decode-words, Holds, bit}
 use Rattle.value.specs.declared.Value.{Value}
 use Rattle.value.specs.declared.Value.the-variants.{Number, Boolean}
+use Rattle.stacks.specs.Layout.{slotsAt}
 use Rattle.stacks.specs.declared.Depths.{Depths}
 use Rattle.stacks.specs.Laws.{withOperands, pop-took, pop-ready, push-holds}
 use Rattle.stacks.specs.View
@@ -72,7 +73,7 @@ boolean-put {w} {w′} {k} b l z = rw z (record {
 })
 
 -- both stand within the operands
-pub numbers-within : {d : Depths} {w : List ℕ} {k : ℕ} → View.Ready d w → TwoNumbers d w k → (k + 5 < length w) × (1 ≤ d .operands) × (k < 3072)
+pub numbers-within : {d : Depths} {w : List ℕ} {k : ℕ} → View.Ready d w → TwoNumbers d w k → (k + 5 < length w) × (1 ≤ d .operands) × (k < slotsAt)
 numbers-within good t = (omega (arith, t .place, t .two, good .operands, good .size), omega (arith, t .two), omega (arith, t .place, t .two, good .operands))
 
 -- THE LAW OF TWO NUMBERS: what is computed of them stands where the older one stood

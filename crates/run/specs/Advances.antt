@@ -5,6 +5,7 @@ use mathlib.Core.List.{List}
 use mathlib.Core.Path.{_≡_, refl, sym, ap, subst, _∙_}
 use lib.ListN.{length}
 use Rattle.machine.specs.State as St
+use Rattle.machine.specs.Run.{maxSteps}
 use Rattle.machine.proofs.Bounded.{Bounded}
 use Rattle.machine.proofs.Unique.{Unique}
 use Rattle.value.specs.declared.JsVmError.the-variants.{ExecutionLimitExceeded}
@@ -50,7 +51,7 @@ pub record Advances (c : Counts) (g : Tables) (m : Mem) (k : ℕ) (r : Advanced)
   pub code : r .counts .code ≡ c .code
   pub images : r .counts .images ≡ c .images
   pub from : k < r .progress .steps
-  pub to : r .progress .steps ≤ 100000
+  pub to : r .progress .steps ≤ maxSteps
 
 -- Quick steps, and then one by the dispatcher
 module _ {c : Counts} {g : Tables} {w h t w₁ h₁ t₁ o : List ℕ} {k : ℕ} {q : Sped} (p : Speeds c g w h t k q w₁ h₁ t₁) where
@@ -95,7 +96,7 @@ module _ {b : St.State} {all : Told} {d : Counts} {g : Tables} {m m′ : Mem} {s
   pub after-refused : {q : Space} → r .progress .how ≡ Refused q → Over b all (Full q) (r .progress .steps) (r .counts) g m′ s
   after-refused e = subst (λ (h : How). After b all h (r .progress .steps) (r .counts) g m′ s) e (a .goes u)
 
-pub over-stops : {b : St.State} {all : Told} {k : ℕ} {c : Counts} {g : Tables} {m : Mem} {s : St.State} → Underway b all k c g m s → k ≡ 100000 → Over b all (Failed ExecutionLimitExceeded) k c g m s
+pub over-stops : {b : St.State} {all : Told} {k : ℕ} {c : Counts} {g : Tables} {m : Mem} {s : St.State} → Underway b all k c g m s → k ≡ maxSteps → Over b all (Failed ExecutionLimitExceeded) k c g m s
 over-stops u e = record { told = stops u e; whole = u .whole }
 
 pub over-ran : {b : St.State} {all : Told} (c : Counts) {d : Counts} {g : Tables} {m : Mem} {z : Ending} {k : ℕ} {r : Ran} → Over b all z k d g m (groundOf c g) → r ≡ ranTo z k d

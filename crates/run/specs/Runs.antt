@@ -11,6 +11,7 @@ use Rattle.machine.specs.Error.{executionLimitExceeded}
 use Rattle.machine.specs.Program as P
 use Rattle.machine.specs.Program.{Program}
 use Rattle.machine.specs.Run as R
+use Rattle.machine.specs.Run.{maxSteps}
 use Rattle.machine.specs.Out.{Out, outOf, went, ended, refused, out}
 use Rattle.machine.proofs.Bounded.{Bounded}
 use Rattle.machine.proofs.Unique.{Unique, went-unique}
@@ -263,19 +264,19 @@ module _ (c : Counts) (g : Tables) (m : Mem) {x : Running} {r : Stepped} {w′ :
 -- THE LAW OF THE LOOP: after k steps, what is left gives what the whole gives. It does so if no two rows of the state b at
 -- the beginning have one key, as in every state that calls leave; whether or not, the stores are whole.
 pub record Underway (b : St.State) (all : Told) (k : ℕ) (c : Counts) (g : Tables) (m : Mem) (s : St.State) : Type 0 where
-  pub left : Unique b → runOf (100000 - k) k (stateOf c m s) ≡ all
+  pub left : Unique b → runOf (maxSteps - k) k (stateOf c m s) ≡ all
   pub unique : Unique b → Unique (stateOf c m s)
   pub whole : Whole c g m s
 
 module _ {b : St.State} {all : Told} {k : ℕ} {c : Counts} {g : Tables} {m : Mem} {s : St.State} (u : Underway b all k c g m s) where
-  pub stops : k ≡ 100000 → Unique b → tell k (resultOf (Failed ExecutionLimitExceeded)) (stateOf c m s) ≡ all
+  pub stops : k ≡ maxSteps → Unique b → tell k (resultOf (Failed ExecutionLimitExceeded)) (stateOf c m s) ≡ all
   unfolding runOf
-  stops e h = let z : 100000 - k ≡ 0 = omega arith in rw z at (u .left h)
+  stops e h = let z : maxSteps - k ≡ 0 = omega arith in rw z at (u .left h)
 
-  module _ {x : Running} (l : k < 100000) (n : Known (g .rows) (g .starts) (c .images) x) {t : Turned} {m′ : Mem} (tk : Takes x c g m t m′) where
-    more : Unique b → thenDo (out (programOf (stateOf c m s)) (stateOf c m s)) (k + 1) (stateOf c m s) (λ t. runOf (100000 - (k + 1)) (k + 1) t) ≡ all
+  module _ {x : Running} (l : k < maxSteps) (n : Known (g .rows) (g .starts) (c .images) x) {t : Turned} {m′ : Mem} (tk : Takes x c g m t m′) where
+    more : Unique b → thenDo (out (programOf (stateOf c m s)) (stateOf c m s)) (k + 1) (stateOf c m s) (λ t. runOf (maxSteps - (k + 1)) (k + 1) t) ≡ all
     unfolding runOf
-    more h = let e : 100000 - k ≡ suc (100000 - (k + 1)) = omega arith in rw e at (u .left h)
+    more h = let e : maxSteps - k ≡ suc (maxSteps - (k + 1)) = omega arith in rw e at (u .left h)
 
     tells : Tells (t .how) (t .counts) m′ s (out (programOf (stateOf c m s)) (stateOf c m s))
     tells = tk .goes s (whole-ground (u .whole) n)
@@ -298,7 +299,7 @@ module _ {b : St.State} {all : Told} {k : ℕ} {c : Counts} {g : Tables} {m : Me
     goes-on e p q y v =
         let o : out (programOf (stateOf c m s)) (stateOf c m s) ≡ went (stateOf (t .counts) m′ s) = subst (λ (h : How). Tells h (t .counts) m′ s (out (programOf (stateOf c m s)) (stateOf c m s))) e tells in
         record {
-          left = λ h. ap (λ (y : Out). thenDo y (k + 1) (stateOf c m s) (λ t. runOf (100000 - (k + 1)) (k + 1) t)) (sym o) ∙ more h;
+          left = λ h. ap (λ (y : Out). thenDo y (k + 1) (stateOf c m s) (λ t. runOf (maxSteps - (k + 1)) (k + 1) t)) (sym o) ∙ more h;
           unique = λ h. went-unique (stateOf c m s) (stateOf (t .counts) m′ s) o (u .unique h);
           whole = whole-if (t .counts) (went-bounded (stateOf (t .counts) m′ s) (programOf (stateOf c m s)) (stateOf c m s) o (u .whole .bounded)) (tk .steady .0) (tk .steady .1) p q y v;
         }
@@ -310,7 +311,7 @@ module _ {b : St.State} {all : Told} {k : ℕ} {c : Counts} {g : Tables} {m : Me
     finishes {e} {z} h i f =
         let o : out (programOf (stateOf c m s)) (stateOf c m s) ≡ ended (endOf e) (stateOf (t .counts) m′ s) = subst (λ (h : How). Tells h (t .counts) m′ s (out (programOf (stateOf c m s)) (stateOf c m s))) h tells in
         ap (λ (y : Ending). tell (k + 1) (resultOf y) (stateOf (t .counts) m′ s)) i ∙ ap (λ (y : R.Result). tell (k + 1) y (stateOf (t .counts) m′ s)) (ending-is e)
-        ∙ ap (λ (y : Out). thenDo y (k + 1) (stateOf c m s) (λ t. runOf (100000 - (k + 1)) (k + 1) t)) (sym o) ∙ more f
+        ∙ ap (λ (y : Out). thenDo y (k + 1) (stateOf c m s) (λ t. runOf (maxSteps - (k + 1)) (k + 1) t)) (sym o) ∙ more f
 
     pub finishes-whole : {e : End} → t .how ≡ Ended e → length (m′ .stacks) ≡ length (m .stacks) → length (m′ .heap) ≡ length (m .heap) → length (m′ .text) ≡ length (m .text) → length (m′ .output) ≡ length (m .output)
         → Whole (t .counts) g m′ s
@@ -326,7 +327,7 @@ module _ {b : St.State} {all : Told} {k : ℕ} {c : Counts} {g : Tables} {m : Me
       refuses f =
           let o : out (programOf (stateOf c m s)) (stateOf c m s) ≡ refused (spaceOf q) = subst (λ (h : How). Tells h (t .counts) m′ s (out (programOf (stateOf c m s)) (stateOf c m s))) h tells in
           ap (λ (y : St.State). tell (k + 1) (R.full (spaceOf q)) y) same
-          ∙ ap (λ (y : Out). thenDo y (k + 1) (stateOf c m s) (λ t. runOf (100000 - (k + 1)) (k + 1) t)) (sym o) ∙ more f
+          ∙ ap (λ (y : Out). thenDo y (k + 1) (stateOf c m s) (λ t. runOf (maxSteps - (k + 1)) (k + 1) t)) (sym o) ∙ more f
 
       pub refuses-whole : length (m′ .stacks) ≡ length (m .stacks) → length (m′ .heap) ≡ length (m .heap) → length (m′ .text) ≡ length (m .text) → length (m′ .output) ≡ length (m .output) → Whole c g m′ s
       refuses-whole a n y v = whole-if c (subst (λ (x : St.State). Bounded x) (sym same) (u .whole .bounded)) refl refl a n y v
@@ -347,10 +348,10 @@ abbrev pub ranOf : Ran → Counts → Tables → Mem → Told
 ranOf r c g m = tell (r .steps) (resultOf (r .end)) (stateOf (r .counts) m (groundOf c g))
 
 -- a run that begins, and one that goes on from here
-pub begins : {c : Counts} {g : Tables} {m : Mem} → Whole c g m (groundOf c g) → Underway (stateIn c g m) (runOf 100000 0 (stateIn c g m)) 0 c g m (groundOf c g)
+pub begins : {c : Counts} {g : Tables} {m : Mem} → Whole c g m (groundOf c g) → Underway (stateIn c g m) (runOf maxSteps 0 (stateIn c g m)) 0 c g m (groundOf c g)
 begins w = record { left = λ z. refl; unique = λ z. z; whole = w }
 
-pub begins-at : (k : ℕ) {c : Counts} {g : Tables} {m : Mem} {s : St.State} → Whole c g m s → Underway (stateOf c m s) (runOf (100000 - k) k (stateOf c m s)) k c g m s
+pub begins-at : (k : ℕ) {c : Counts} {g : Tables} {m : Mem} {s : St.State} → Whole c g m s → Underway (stateOf c m s) (runOf (maxSteps - k) k (stateOf c m s)) k c g m s
 begins-at k w = record { left = λ z. refl; unique = λ z. z; whole = w }
 
 -- the same code and images, so the same ground

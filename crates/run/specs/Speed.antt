@@ -6,6 +6,7 @@ use mathlib.Core.List.{List, []}
 use mathlib.Core.Path.{_≡_, refl, sym, ap, subst, _∙_}
 use lib.ListN.{length}
 use Rattle.machine.specs.State as St
+use Rattle.machine.specs.Run.{maxSteps}
 use Rattle.machine.specs.Out.{Out, went, out}
 use Rattle.machine.proofs.Unique.{Unique, went-unique}
 use Rattle.stacks.specs.View as Stacks
@@ -77,9 +78,9 @@ pub record Strides (x : Running) (y : Here) (c : Counts) (code places w h t : Li
   pub frame : InFrame x y (r .depths) w′
   pub sized : Sized (c .sizes) h′
   pub from : k ≤ r .steps
-  pub to : r .steps < 99999
+  pub to : r .steps < maxSteps - 1
 
-pub stride-none : {x : Running} {y : Here} {c : Counts} {code places w h t : List ℕ} {k : ℕ} → Stacks.Ready (c .depths) w → InFrame x y (c .depths) w → Sized (c .sizes) h → k < 99999
+pub stride-none : {x : Running} {y : Here} {c : Counts} {code places w h t : List ℕ} {k : ℕ} → Stacks.Ready (c .depths) w → InFrame x y (c .depths) w → Sized (c .sizes) h → k < maxSteps - 1
     → Strides x y c code places w h t k (strode (c .depths) k) w h
 stride-none {c = c} {w = w} {h = h} {t = t} {k = k} g f z l = record {
   goes = λ rows starts o s a u. let e : k - k ≡ 0 = omega arith in subst (λ (j : ℕ). Onward j (stateOf c (mem w h t o) s) (stateOf c (mem w h t o) s)) (sym e) (onward-none (stateOf c (mem w h t o) s));
@@ -94,7 +95,7 @@ module _ {x : Running} {y : Here} {c : Counts} {code places w h t : List ℕ} {k
   -- one step more
   further : {f : Depths} {w₂ h₂ : List ℕ} → ((rows starts o : List ℕ) (s : St.State) → Ground x c (tables code places rows starts) s → Unique (stateOf (withDepths e c) (mem w₁ h₁ t o) s)
       → out (programOf (stateOf (withDepths e c) (mem w₁ h₁ t o) s)) (stateOf (withDepths e c) (mem w₁ h₁ t o) s) ≡ went (stateOf (withDepths f c) (mem w₂ h₂ t o) s))
-      → Stacks.Ready f w₂ → Kept e w₁ f w₂ → Sized (c .sizes) h₂ → j < 99998 → {d : Depths} → d ≡ stayOf e f → Strides x y c code places w h t k (strode d (j + 1)) w₂ h₂
+      → Stacks.Ready f w₂ → Kept e w₁ f w₂ → Sized (c .sizes) h₂ → j < maxSteps - 2 → {d : Depths} → d ≡ stayOf e f → Strides x y c code places w h t k (strode d (j + 1)) w₂ h₂
   further {f} {w₂} {h₂} o r s z l {d} i =
       let n : j - k + 1 ≡ j + 1 - k = omega (arith, p .from) in
       subst (λ (u : Depths). Strides x y c code places w h t k (strode u (j + 1)) w₂ h₂) (sym (i ∙ stay-is s)) (record {
@@ -108,7 +109,7 @@ module _ {x : Running} {y : Here} {c : Counts} {code places w h t : List ℕ} {k
       })
 
   module _ {q : Quick} {w₂ : List ℕ} (t₁ : QuickStep (Constants x (c .code) code places) e w₁ q w₂) (s₁ : Stays e w₁ q w₂) where
-    pub stride-quick : {f d : Depths} → q ≡ Went f → d ≡ stayOf e f → j < 99998 → Strides x y c code places w h t k (strode d (j + 1)) w₂ h₁
+    pub stride-quick : {f d : Depths} → q ≡ Went f → d ≡ stayOf e f → j < maxSteps - 2 → Strides x y c code places w h t k (strode d (j + 1)) w₂ h₁
     stride-quick g i l =
         let m = rw g at (t₁ .told) in
         further (λ rows starts o s a u. m .0 (below c (mem w₁ h₁ t o) s) (looks-named (below c (mem w₁ h₁ t o) s) (looks-below (mem w₁ h₁ t o) s a) .constants)) (m .1) (rw g at (s₁ .told)) (p .sized) l i
@@ -126,7 +127,7 @@ module _ {x : Running} {y : Here} {c : Counts} {code places w h t : List ℕ} {k
     stays₁ : Stays e w₁ (quickIn q) w₂
     stays₁ = subst (λ (u : Counts). Stays (u .depths) w₁ (quickIn q) w₂) z s₁
 
-    pub stride-reach : {f d : Depths} {i : ℕ} → q ≡ Reached·Went f i → d ≡ stayOf e f → length h₂ ≡ length h₁ → j < 99998 → Strides x y c code places w h t k (strode d (j + 1)) w₂ h₂
+    pub stride-reach : {f d : Depths} {i : ℕ} → q ≡ Reached·Went f i → d ≡ stayOf e f → length h₂ ≡ length h₁ → j < maxSteps - 2 → Strides x y c code places w h t k (strode d (j + 1)) w₂ h₂
     stride-reach g i l n =
         further (λ rows starts o s a u. let m = rw g at (step₁ rows starts o .told) in m .0 s (record { code = a .code; images = a .images; known = a .known }, unique-distinct (withDepths e c) (mem w₁ h₁ t o) s u))
         (let m = rw g at (step₁ [] [] [] .told) in m .1) (rw g at (stays₁ .told)) (sized-kept (p .sized) l) n i
@@ -146,22 +147,22 @@ pub record Speeds (c : Counts) (g : Tables) (w h t : List ℕ) (k : ℕ) (r : Sp
   pub sized : Sized (r .counts .sizes) h′
   pub texts : (r .counts .text ≤ textLimit) × (length t′ ≡ textLimit)
   pub from : k ≤ r .steps
-  pub to : r .steps < 100000
+  pub to : r .steps < maxSteps
   pub code : r .counts .code ≡ c .code
   pub images : r .counts .images ≡ c .images
 
-pub speed-none : {c : Counts} {g : Tables} {w h t : List ℕ} {k : ℕ} → Stacks.Ready (c .depths) w → Sized (c .sizes) h → (c .text ≤ textLimit) × (length t ≡ textLimit) → k < 100000 → Speeds c g w h t k (spedTo c k) w h t
+pub speed-none : {c : Counts} {g : Tables} {w h t : List ℕ} {k : ℕ} → Stacks.Ready (c .depths) w → Sized (c .sizes) h → (c .text ≤ textLimit) × (length t ≡ textLimit) → k < maxSteps → Speeds c g w h t k (spedTo c k) w h t
 speed-none a b d l = record { goes = λ u. u; ready = a; sized = b; texts = d; from = omega arith; to = l; code = refl; images = refl }
 
 -- a run that is under way, j steps on
 underway-on : {b : St.State} {all : Told} {k j i : ℕ} {c : Counts} {e : Depths} {g : Tables} {w h t o w′ h′ t′ : List ℕ} {s : St.State} → Underway b all k c g (mem w h t o) s
-    → (Unique (stateOf c (mem w h t o) s) → Onward j (stateOf c (mem w h t o) s) (stateOf (leaptTo e i c) (mem w′ h′ t′ o) s)) → k + j ≤ 100000
+    → (Unique (stateOf c (mem w h t o) s) → Onward j (stateOf c (mem w h t o) s) (stateOf (leaptTo e i c) (mem w′ h′ t′ o) s)) → k + j ≤ maxSteps
     → Stacks.Ready e w′ → Sized (c .sizes) h′ → i ≤ textLimit → length t′ ≡ textLimit
     → Underway b all (k + j) (leaptTo e i c) g (mem w′ h′ t′ o) s
 underway-on {b} {all} {k} {j} {i} {c} {e} {g} {w} {h} {t} {o} {w′} {h′} {t′} {s} u a l x y n m =
-    let z : 100000 - k ≡ j + (100000 - (k + j)) = omega arith in
+    let z : maxSteps - k ≡ j + (maxSteps - (k + j)) = omega arith in
     record {
-      left = λ d. sym (a (u .unique d) .runs (100000 - (k + j)) k) ∙ ap (λ (z : ℕ). runOf z k (stateOf c (mem w h t o) s)) (sym z) ∙ u .left d;
+      left = λ d. sym (a (u .unique d) .runs (maxSteps - (k + j)) k) ∙ ap (λ (z : ℕ). runOf z k (stateOf c (mem w h t o) s)) (sym z) ∙ u .left d;
       unique = λ d. a (u .unique d) .unique (u .unique d);
       whole = whole-moved (u .whole) x y n m;
     }
@@ -187,7 +188,7 @@ module _ {c d : Counts} {g : Tables} {w h t w₁ h₁ t₁ : List ℕ} {k j : �
 
   -- a step that may leave the frame
   module _ {q : Leap} {w₂ t₂ : List ℕ} (r : (o : List ℕ) → LeapStep (Ground x d g) d (mem w₁ h₁ t₁ o) q (mem w₂ h₁ t₂ o)) where
-    pub speed-leap : {b : Counts} {e : Depths} {i : ℕ} → q ≡ Leap·Went e i → b ≡ leaptTo e i d → j < 99999 → length t₂ ≡ length t₁ → Speeds c g w h t k (spedTo b (j + 1)) w₂ h₁ t₂
+    pub speed-leap : {b : Counts} {e : Depths} {i : ℕ} → q ≡ Leap·Went e i → b ≡ leaptTo e i d → j < maxSteps - 1 → length t₂ ≡ length t₁ → Speeds c g w h t k (spedTo b (j + 1)) w₂ h₁ t₂
     speed-leap {e = e} {i = i} f z l y =
         let m = rw f at (r [] .told) in
         subst (λ (y : Counts). Speeds c g w h t k (spedTo y (j + 1)) w₂ h₁ t₂) (sym z) (record {

@@ -10,6 +10,7 @@ use outcome::Part;
 ghost use mathlib.Core.Path.{_≡_};
 ghost use Prim.Native.Nat.{_≤_, _<_};
 ghost use lib.ListN.{length};
+ghost use Rattle.machine.specs.Run.{maxSteps};
 ghost use Rattle.stacks.specs.View.{Ready};
 ghost use Rattle.texts.specs.Keeps.{textLimit, outputLimit};
 ghost use Rattle.heap.specs.View.{Sized};
@@ -102,7 +103,7 @@ fn proceed(
 ) -> Advanced
     requires { ⌜ Whole c (tables (now code) (now places) (now rows) (now starts)) (mem (now stacks) (now heap) (now text) (now output)) (groundOf c (tables (now code) (now places) (now rows) (now starts))) ⌝ }
     requires { ⌜ Known (now rows) (now starts) (c .images) y ⌝ }
-    requires { ⌜ made < 100000 ⌝ }
+    requires { ⌜ made < maxSteps ⌝ }
     ensures { λ r. ⌜ Advances c (tables (now (code .entry)) (now (places .entry)) (now (rows .entry)) (now (starts .entry))) (mem (now (stacks .entry)) (now (heap .entry)) (now (text .entry)) (now (output .entry))) made r (mem (now (stacks .exit)) (now (heap .exit)) (now (text .exit)) (now (output .exit))) ⌝ }
 {
     let q = speed(
@@ -147,7 +148,7 @@ pub fn advance<'c>(
 ) -> Progress
     requires { ⌜ Whole (now c) (tables (now code) (now places) (now rows) (now starts)) (mem (now stacks) (now heap) (now text) (now output)) (groundOf (now c) (tables (now code) (now places) (now rows) (now starts))) ⌝ }
     requires { ⌜ Known (now rows) (now starts) (now c .images) x ⌝ }
-    requires { ⌜ made < 100000 ⌝ }
+    requires { ⌜ made < maxSteps ⌝ }
     ensures { λ r. ⌜ Advances (now (c .entry)) (tables (now (code .entry)) (now (places .entry)) (now (rows .entry)) (now (starts .entry))) (mem (now (stacks .entry)) (now (heap .entry)) (now (text .entry)) (now (output .entry))) made (advanced (now (c .exit)) r) (mem (now (stacks .exit)) (now (heap .exit)) (now (text .exit)) (now (output .exit))) ⌝ }
 {
     let next = proceed(
@@ -185,7 +186,7 @@ pub fn advance_copy(
 ) -> Advanced
     requires { ⌜ Whole c (tables (now code) (now places) (now rows) (now starts)) (mem (now stacks) (now heap) (now text) (now output)) (groundOf c (tables (now code) (now places) (now rows) (now starts))) ⌝ }
     requires { ⌜ Known (now rows) (now starts) (c .images) x ⌝ }
-    requires { ⌜ made < 100000 ⌝ }
+    requires { ⌜ made < maxSteps ⌝ }
     ensures { λ r. ⌜ Advances c (tables (now (code .entry)) (now (places .entry)) (now (rows .entry)) (now (starts .entry))) (mem (now (stacks .entry)) (now (heap .entry)) (now (text .entry)) (now (output .entry))) made r (mem (now (stacks .exit)) (now (heap .exit)) (now (text .exit)) (now (output .exit))) ⌝ }
 {
     let mut at = c;

@@ -148,7 +148,7 @@ pub fn run_loop(
     requires { ⌜ Whole c (tables (now code) (now places) (now rows) (now starts)) (mem (now stacks) (now heap) (now text) (now output)) (groundOf c (tables (now code) (now places) (now rows) (now starts))) ⌝ }
     ensures { λ r. ⌜ (Unique (stateIn c (tables (now (code .entry)) (now (places .entry)) (now (rows .entry)) (now (starts .entry))) (mem (now (stacks .entry)) (now (heap .entry)) (now (text .entry)) (now (output .entry))))
         → ranOf r c (tables (now (code .entry)) (now (places .entry)) (now (rows .entry)) (now (starts .entry))) (mem (now (stacks .exit)) (now (heap .exit)) (now (text .exit)) (now (output .exit)))
-        ≡ runOf 100000 0 (stateIn c (tables (now (code .entry)) (now (places .entry)) (now (rows .entry)) (now (starts .entry))) (mem (now (stacks .entry)) (now (heap .entry)) (now (text .entry)) (now (output .entry))))) ⌝ }
+        ≡ runOf R.maxSteps 0 (stateIn c (tables (now (code .entry)) (now (places .entry)) (now (rows .entry)) (now (starts .entry))) (mem (now (stacks .entry)) (now (heap .entry)) (now (text .entry)) (now (output .entry))))) ⌝ }
     ensures { λ r. ⌜ Leaves c (r .counts) (tables (now (code .entry)) (now (places .entry)) (now (rows .entry)) (now (starts .entry))) (mem (now (stacks .exit)) (now (heap .exit)) (now (text .exit)) (now (output .exit))) ⌝ }
 {
     let mut x = fetch::find(rows, starts, c.images, 0, 0);

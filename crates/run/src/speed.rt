@@ -14,8 +14,9 @@ use stacks::FRAMES_AT;
 ghost use mathlib.Core.Path.{_≡_};
 ghost use mathlib.Core.Bool.{true};
 ghost use mathlib.Core.List.{List};
-ghost use Prim.Native.Nat.{ℕ, _+_, _≤_, _<_};
+ghost use Prim.Native.Nat.{ℕ, _+_, _-_, _≤_, _<_};
 ghost use lib.ListN.{length};
+ghost use Rattle.machine.specs.Run.{maxSteps};
 ghost use Rattle.stacks.specs.View.{Ready};
 ghost use Rattle.fetch.specs.Running.{Known, Current};
 ghost use Rattle.quick.specs.Quickly.{Inside};
@@ -106,7 +107,7 @@ fn stride(
     requires { ⌜ Inside x (c .code) (now code) ⌝ }
     requires { ⌜ Sized (c .sizes) (now heap) ⌝ }
     requires { ⌜ (c .text ≤ textLimit) × (length (now text) ≡ textLimit) ⌝ }
-    requires { ⌜ steps < 99999 ⌝ }
+    requires { ⌜ steps < maxSteps - 1 ⌝ }
     ensures { λ r. ⌜ Strides x y c (now (code .entry)) (now (places .entry)) (now (stacks .entry)) (now (heap .entry)) (now (text .entry)) steps r (now (stacks .exit)) (now (heap .exit)) ⌝ }
 {
     let mut e = c.depths;
@@ -188,7 +189,7 @@ pub fn speed(
     requires { ⌜ c .code ≤ length (now code) ⌝ }
     requires { ⌜ Sized (c .sizes) (now heap) ⌝ }
     requires { ⌜ (c .text ≤ textLimit) × (length (now text) ≡ textLimit) ⌝ }
-    requires { ⌜ steps < 100000 ⌝ }
+    requires { ⌜ steps < maxSteps ⌝ }
     ensures { λ r. ⌜ Speeds c (tables (now (code .entry)) (now (places .entry)) (now (rows .entry)) (now (starts .entry))) (now (stacks .entry)) (now (heap .entry)) (now (text .entry)) steps r (now (stacks .exit)) (now (heap .exit)) (now (text .exit)) ⌝ }
 {
     let mut x = y;

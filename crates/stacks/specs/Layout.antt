@@ -1,4 +1,4 @@
--- Where each of the four stacks begins in the one lent store, by the limits of document 01. Assumes nothing.
+-- Where each of the four stacks begins in the one lent store, by the limits of documents 01 and 02. Assumes nothing.
 use Prim.Native.Nat.{ℕ, _+_, _*_}
 use Rattle.machine.specs.State.{limit, operandLimit, slotStore, frameStore, handlerStore}
 

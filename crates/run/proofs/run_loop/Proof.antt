@@ -3,6 +3,7 @@ use borrow.Author.Needs.{needs}
 use Prim.Native.Nat.{_≤_, _-_}
 use mathlib.Core.Path.{_≡_, refl, _∙_}
 use lib.ListN.{length}
+use Rattle.machine.specs.Run.{maxSteps}
 use Rattle.fetch.specs.Running.{Known}
 use Rattle.heapops.specs.Turns.{mem}
 use Rattle.finish.specs.Parts.{tables}
@@ -20,12 +21,12 @@ use Rattle.run.proofs.ran_to.Reads as ran-to-reads
 abbrev Inv-loop : tie.InvT-loop
 Inv-loop code places rows starts stacks₀ heap₀ text₀ output₀ x₀ hints₀ d₀ steps₀ stacks heap text output x hints d steps = let g = tables code places rows starts in
     let s = stateIn d₀ g (mem stacks₀ heap₀ text₀ output₀) in
-    Underway s (runOf 100000 0 s) steps d g (mem stacks heap text output) (groundOf d₀ g)
-    × Known rows starts (d .images) x × (steps ≤ 100000) × (d .code ≡ d₀ .code) × (d .images ≡ d₀ .images)
+    Underway s (runOf maxSteps 0 s) steps d g (mem stacks heap text output) (groundOf d₀ g)
+    × Known rows starts (d .images) x × (steps ≤ maxSteps) × (d .code ≡ d₀ .code) × (d .images ≡ d₀ .images)
     × (length stacks ≡ length stacks₀) × (length heap ≡ length heap₀) × (length text ≡ length text₀) × (length output ≡ length output₀)
 
 abbrev μ-loop : tie.MeasureT-loop
-μ-loop code places rows starts stacks₀ heap₀ text₀ output₀ x₀ hints₀ d₀ steps₀ stacks heap text output x hints d steps = 100000 - steps
+μ-loop code places rows starts stacks₀ heap₀ text₀ output₀ x₀ hints₀ d₀ steps₀ stacks heap text output x hints d steps = maxSteps - steps
 
 find-requires : tie.Need-find-requires Inv-loop μ-loop
 find-requires c κs = search needs

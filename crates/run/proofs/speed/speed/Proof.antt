@@ -4,6 +4,7 @@ use denote.Ref.{now}
 use Prim.Native.Nat.{_≤_, _<_, _-_}
 use lib.ListN.{length}
 use mathlib.Core.Path.{_≡_, refl, sym, ap, subst, _∙_}
+use Rattle.machine.specs.Run.{maxSteps}
 use Rattle.fetch.specs.Running.{Known}
 use Rattle.finish.specs.Parts.{tables}
 use Rattle.quick.specs.Stays.{stood}
@@ -25,7 +26,7 @@ abbrev Inv-loop : tie.InvT-loop
 Inv-loop steps code places rows starts stacks₀ heap₀ text₀ hints₀ x₀ d₀ made₀ stacks heap text hints x d made = Speeds d₀ (tables code places rows starts) stacks₀ heap₀ text₀ made₀ (spedTo d made) stacks heap text × Known rows starts (d .images) x × (length stacks ≡ length stacks₀) × (length heap ≡ length heap₀) × (length text ≡ length text₀)
 
 abbrev μ-loop : tie.MeasureT-loop
-μ-loop steps code places rows starts stacks₀ heap₀ text₀ hints₀ x₀ d₀ made₀ stacks heap text hints x d made = 100000 - made
+μ-loop steps code places rows starts stacks₀ heap₀ text₀ hints₀ x₀ d₀ made₀ stacks heap text hints x d made = maxSteps - made
 
 loop-holds : tie.Need-loop-holds Inv-loop μ-loop
 loop-holds c = (speed-none (c .before .before .before .before .before .before .before .pre .0) (c .before .before .before .before .before .before .before .pre .1 .1 .1 .0) (c .before .before .before .before .before .before .before .pre .1 .1 .1 .1 .0) (c .before .before .before .before .before .before .before .pre .1 .1 .1 .1 .1), c .before .before .before .before .before .before .before .pre .1 .0, refl, refl, refl)

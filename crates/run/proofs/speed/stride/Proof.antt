@@ -4,6 +4,7 @@ use denote.Ref.{now}
 use Prim.Native.Nat.{_≤_, _<_, _-_}
 use lib.ListN.{length}
 use mathlib.Core.Path.{_≡_, refl, _∙_}
+use Rattle.machine.specs.Run.{maxSteps}
 use Rattle.run.specs.Speed.{Strides, strode, stride-none, stride-quick, stride-left, stride-reach, stride-stops}
 use Rattle.run.proofs.speed.stride.Statement.{statement}
 use Rattle.run.proofs.speed.stride.Tie as tie
@@ -16,10 +17,10 @@ use Rattle.run.proofs.speed.stay.Reads as stay-reads
 use Rattle.run.proofs.speed.strode_to.Reads as strode-to-reads
 
 abbrev Inv-loop : tie.InvT-loop
-Inv-loop x y c steps code places stacks₀ heap₀ text hints₀ e₀ k₀ stacks heap hints e k = Strides x y c code places stacks₀ heap₀ text k₀ (strode e k) stacks heap × (k < 99999) × (length stacks ≡ length stacks₀) × (length heap ≡ length heap₀)
+Inv-loop x y c steps code places stacks₀ heap₀ text hints₀ e₀ k₀ stacks heap hints e k = Strides x y c code places stacks₀ heap₀ text k₀ (strode e k) stacks heap × (k < maxSteps - 1) × (length stacks ≡ length stacks₀) × (length heap ≡ length heap₀)
 
 abbrev μ-loop : tie.MeasureT-loop
-μ-loop x y c steps code places stacks₀ heap₀ text hints₀ e₀ k₀ stacks heap hints e k = 100000 - k
+μ-loop x y c steps code places stacks₀ heap₀ text hints₀ e₀ k₀ stacks heap hints e k = maxSteps - k
 
 loop-holds : tie.Need-loop-holds Inv-loop μ-loop
 loop-holds c = (stride-none (c .before .before .before .before .before .before .pre .0) (c .before .before .before .before .before .before .pre .1 .0) (c .before .before .before .before .before .before .pre .1 .1 .1 .0) (c .before .before .before .before .before .before .pre .1 .1 .1 .1 .1), c .before .before .before .before .before .before .pre .1 .1 .1 .1 .1, refl, refl)
