@@ -1,7 +1,8 @@
 /* Carderwheel, the script engine of the ice-radar logger, for C and C++. docs/EMBEDDING.md has the calling order, the numbers and what to do about each.
 
    One `static carderwheel engine;` lends all stores; carderwheel_clear makes it fresh. Link with libcarderwheel.a (`rt staticlib carderwheel`).
-   No call keeps a pointer, allocates, or uses a global variable. A call that is refused alters nothing. */
+   No call allocates, uses a global variable, or keeps a pointer; only a carderwheel_writer, which is the host's, has that of its buffer. A call that is
+   refused alters nothing. */
 #ifndef CARDERWHEEL_H
 #define CARDERWHEEL_H
 
@@ -148,9 +149,9 @@ static inline const uint8_t *carderwheel_bytes_(const uint8_t *bytes, size_t siz
     return size != 0 ? bytes : (const uint8_t *)"";
 }
 
-/* The calls. Each answers document 01's number: 0 is acceptance (of carderwheel_run: that the run finished). A refused call alters nothing, neither
-   the engine nor what its other pointers name. A run that started was not refused, whatever its number: it leaves what it did up to its end. Bytes given
-   to a call, and its buffer, lie outside the engine. */
+/* The engine's calls. Each answers document 01's number: 0 is acceptance (of carderwheel_run: that the run finished). A refused call alters nothing,
+   neither the engine nor what its other pointers name. A run that started was not refused, whatever its number: it leaves what it did up to its end.
+   Bytes given to a call, and its buffer, lie outside the engine. */
 
 /* The engine as new: no images, no texts, and `console` its only global. Also before the first use: the counts may be unwritten, and are not read. */
 static inline uint64_t carderwheel_clear(carderwheel *e) {
@@ -229,6 +230,129 @@ static inline uint64_t carderwheel_drain(carderwheel *e, uint8_t *buffer, size_t
     e->counts = a.counts;
     if (a.number == 0) *written = a.amount;
     return a.number;
+}
+
+/* The image writer. It needs no engine: an image comes into a buffer of the host's, call by call, and carderwheel_load takes it from there. */
+
+/* How far an image is. Only the calls write this. */
+typedef struct carderwheel_writer_state {
+    uint64_t stage;     /* 0 before a begin, 1 without a template, 2 in a template, 3 behind its code, 4 finished */
+    uint64_t size;      /* the bytes written */
+    uint64_t templates;
+    uint64_t at;        /* where the newest template starts */
+    uint64_t constants; /* of the newest template */
+} carderwheel_writer_state;
+
+/* What the host keeps from begin to finish. A writer of zeros is one before a begin. */
+typedef struct carderwheel_writer {
+    uint8_t *buffer;
+    size_t capacity;
+    carderwheel_writer_state state;
+} carderwheel_writer;
+
+/* What the library exports for it. */
+typedef struct carderwheel_wrote_ {
+    uint64_t number;
+    carderwheel_writer_state state;
+} carderwheel_wrote_;
+
+carderwheel_wrote_ carderwheel_write_begin_in(uint8_t *buffer, size_t buffer_size, carderwheel_writer_state state);
+carderwheel_wrote_ carderwheel_write_template_in(uint8_t *buffer, size_t buffer_size, carderwheel_writer_state state, uint64_t parameters,
+    uint64_t locals);
+carderwheel_wrote_ carderwheel_write_number_in(uint8_t *buffer, size_t buffer_size, carderwheel_writer_state state, uint64_t bits);
+carderwheel_wrote_ carderwheel_write_text_in(uint8_t *buffer, size_t buffer_size, carderwheel_writer_state state, const uint8_t *bytes,
+    size_t bytes_size);
+carderwheel_wrote_ carderwheel_write_boolean_in(uint8_t *buffer, size_t buffer_size, carderwheel_writer_state state, uint64_t value);
+carderwheel_wrote_ carderwheel_write_null_in(uint8_t *buffer, size_t buffer_size, carderwheel_writer_state state);
+carderwheel_wrote_ carderwheel_write_undefined_in(uint8_t *buffer, size_t buffer_size, carderwheel_writer_state state);
+carderwheel_wrote_ carderwheel_write_function_in(uint8_t *buffer, size_t buffer_size, carderwheel_writer_state state, uint64_t template_);
+carderwheel_wrote_ carderwheel_write_code_in(uint8_t *buffer, size_t buffer_size, carderwheel_writer_state state, const uint8_t *bytes,
+    size_t bytes_size);
+carderwheel_wrote_ carderwheel_write_finish_in(carderwheel_writer_state state);
+
+#define CARDERWHEEL_WRITER_(w, none) (w)->capacity != 0 ? (w)->buffer : (none), (w)->capacity, (w)->state
+
+static inline uint64_t carderwheel_settle_(carderwheel_writer *w, carderwheel_wrote_ a) {
+    w->state = a.state;
+    return a.number;
+}
+
+/* The writer's calls: begin, then of each template its counts, its constants and its code, then finish. Each answers 0 where it is accepted, else
+   - 34 where it comes at the wrong time: anything but a begin before one or after the finish, a constant or code with no template open, a constant or
+     a second code after a template's code; or where a count or a length would pass 65,535
+   - 31 where the buffer is too short, which is asked after 34
+   and has then altered neither the writer nor the buffer. A call other than begin comes on the writer and the buffer as the last one left them; on others
+   its answer is open. The buffer's bytes past state.size stay as they were. Bytes given to a call lie outside the buffer.
+   The writer also takes what carderwheel_load then refuses with 2, 5 or 6, and images larger than the code store. */
+
+/* Starts an image, whatever the writer has: also before the first use, when it may be unwritten and is not read. Takes 2 bytes. Where it is refused, an
+   image under way can go on. */
+static inline uint64_t carderwheel_write_begin(carderwheel_writer *w, uint8_t *buffer, size_t capacity) {
+    uint8_t none;
+    carderwheel_writer_state zeros = {0, 0, 0, 0, 0};
+    carderwheel_wrote_ a = carderwheel_write_begin_in(capacity != 0 ? buffer : &none, capacity, zeros);
+    if (a.number == 0) {
+        w->buffer = buffer;
+        w->capacity = capacity;
+        w->state = a.state;
+    }
+    return a.number;
+}
+
+/* Opens a template; templates are numbered from 0, which is the one that a run starts with. 8 bytes. The numbers are wider than their places in the image so
+   that one above 65,535 is refused. */
+static inline uint64_t carderwheel_write_template(carderwheel_writer *w, uint64_t parameters, uint64_t locals) {
+    uint8_t none;
+    return carderwheel_settle_(w, carderwheel_write_template_in(CARDERWHEEL_WRITER_(w, &none), parameters, locals));
+}
+
+/* The open template's constants are numbered from 0, in the order of these six calls. A number, by its 64 bits: 9 bytes. */
+static inline uint64_t carderwheel_write_number(carderwheel_writer *w, uint64_t bits) {
+    uint8_t none;
+    return carderwheel_settle_(w, carderwheel_write_number_in(CARDERWHEEL_WRITER_(w, &none), bits));
+}
+
+/* 3 bytes and its own. */
+static inline uint64_t carderwheel_write_text(carderwheel_writer *w, const uint8_t *bytes, size_t size) {
+    uint8_t none;
+    return carderwheel_settle_(w, carderwheel_write_text_in(CARDERWHEEL_WRITER_(w, &none), carderwheel_bytes_(bytes, size), size));
+}
+
+/* 0 is false, anything else true. 2 bytes. */
+static inline uint64_t carderwheel_write_boolean(carderwheel_writer *w, int value) {
+    uint8_t none;
+    return carderwheel_settle_(w, carderwheel_write_boolean_in(CARDERWHEEL_WRITER_(w, &none), value != 0));
+}
+
+/* 1 byte. */
+static inline uint64_t carderwheel_write_null(carderwheel_writer *w) {
+    uint8_t none;
+    return carderwheel_settle_(w, carderwheel_write_null_in(CARDERWHEEL_WRITER_(w, &none)));
+}
+
+/* 1 byte. */
+static inline uint64_t carderwheel_write_undefined(carderwheel_writer *w) {
+    uint8_t none;
+    return carderwheel_settle_(w, carderwheel_write_undefined_in(CARDERWHEEL_WRITER_(w, &none)));
+}
+
+/* The function of a template that comes later. 3 bytes. */
+static inline uint64_t carderwheel_write_function(carderwheel_writer *w, uint64_t template_) {
+    uint8_t none;
+    return carderwheel_settle_(w, carderwheel_write_function_in(CARDERWHEEL_WRITER_(w, &none), template_));
+}
+
+/* The open template's code, whole and once; a template without has empty code. Takes its own bytes. */
+static inline uint64_t carderwheel_write_code(carderwheel_writer *w, const uint8_t *bytes, size_t size) {
+    uint8_t none;
+    return carderwheel_settle_(w, carderwheel_write_code_in(CARDERWHEEL_WRITER_(w, &none), carderwheel_bytes_(bytes, size), size));
+}
+
+/* Where it is accepted, the image is *size bytes from the buffer's start on. Takes none. */
+static inline uint64_t carderwheel_write_finish(carderwheel_writer *w, size_t *size) {
+    carderwheel_wrote_ a = carderwheel_write_finish_in(w->state);
+    if (a.number == 0) *size = a.state.size;
+    return carderwheel_settle_(w, a);
 }
 
 #ifdef __cplusplus

@@ -189,7 +189,7 @@ pub fn hex(bytes: &[u8]) -> String {
     s
 }
 
-fn unhex(s: &str) -> Vec<u8> {
+pub fn unhex(s: &str) -> Vec<u8> {
     let mut out = Vec::new();
     let mut rest = s.trim_start_matches('-');
     while !rest.is_empty() {

@@ -1,5 +1,5 @@
-//! Runs programs by the engine's static library and by the Rust of documents 000 to 002, and compares what both answer and hold after every call.
-//! README.md says how, and what is compared.
+//! Runs programs by the engine's static library and by the Rust of documents 000 to 002, and compares what both answer and hold after every call; then lists of
+//! calls of the image writer. README.md says how, and what is compared.
 
 use crate::images::OPCODES;
 use crate::runs::Coverage;
@@ -21,6 +21,8 @@ mod programs;
 mod reference;
 #[path = "shrinking.rs"]
 mod shrinking;
+#[path = "writing.rs"]
+mod writing;
 
 use calls::{Answer, Call, Program};
 use library::Library;
@@ -91,8 +93,8 @@ fn one(library: &mut Library, reference: &mut Reference, call: &Call, seen: &mut
 }
 
 /// What a run of these numbers must have met, each at least so often.
-fn missing(seen: &Seen, least: usize) -> Vec<String> {
-    let mut all = Vec::new();
+fn missing(seen: &Seen, written: &writing::Seen, least: usize) -> Vec<String> {
+    let mut all = written.all();
     for b in OPCODES {
         all.push((format!("opcode {}", b), seen.code.opcodes[b as usize]));
     }
@@ -111,7 +113,7 @@ fn missing(seen: &Seen, least: usize) -> Vec<String> {
     all.iter().filter(|m| m.1 < least).map(|m| format!("{}: {} times", m.0, m.1)).collect()
 }
 
-fn report(programs: u64, seen: &Seen) {
+fn report(programs: usize, seen: &Seen) {
     let kinds: Vec<String> = seen.kinds.iter().map(|(k, n)| format!("{} {}", n, k)).collect();
     println!("{} programs ({}), {} runs, {} steps", programs, kinds.join(", "), seen.code.runs, seen.code.steps);
     let calls: Vec<String> = (0..10)
@@ -147,7 +149,8 @@ fn asked(words: &Words) -> Box<dyn Iterator<Item = (String, Program)>> {
     let (seed, count, from) = (words.number("seed", 1u64), words.number("count", 20_000u64), words.number("from", 0u64));
     if let Some(file) = words.text("calls") {
         let text = std::fs::read_to_string(file).expect("a file of calls");
-        let given = Program { kind: "given", calls: text.lines().filter_map(Call::read).collect() };
+        let lines = text.lines().filter(|l| !l.starts_with("write "));
+        let given = Program { kind: "given", calls: lines.filter_map(Call::read).collect() };
         return Box::new(std::iter::once((dying::note(file.to_string()), given)));
     }
     let all = specials::long().into_iter().chain(specials::short()).chain(programs::brimful()).chain(programs::endless());
@@ -157,11 +160,10 @@ fn asked(words: &Words) -> Box<dyn Iterator<Item = (String, Program)>> {
     Box::new(by_hand.into_iter().enumerate().map(named).chain(made))
 }
 
-/// The program as an input of the fuzzer, where it is not too long for one.
-fn write_input(folder: &str, number: u64, program: &Program) {
-    let input: Vec<u8> = program.calls.iter().flat_map(Call::input).collect();
+/// An input of the fuzzer, where it is not too long for one.
+fn write_input(folder: &str, kind: &str, number: usize, input: Vec<u8>) {
     if input.len() <= 4096 {
-        std::fs::write(format!("{}/{}-{}", folder, program.kind, number), input).expect("the file is written");
+        std::fs::write(format!("{}/{}-{}", folder, kind, number), input).expect("the file is written");
     }
 }
 
@@ -176,7 +178,7 @@ pub fn main() {
         programs += 1;
         *seen.kinds.entry(p.kind).or_default() += 1;
         if let Some(folder) = words.text("inputs") {
-            write_input(folder, programs, &p);
+            write_input(folder, p.kind, programs, p.calls.iter().flat_map(Call::input).collect());
         }
         if let Err((at, why)) = compare(&mut library, &p.calls, &mut seen) {
             different += 1;
@@ -189,12 +191,28 @@ pub fn main() {
     for s in &sizes {
         println!("DIFFERENT: question 33: {}", s);
     }
+    let mut written = writing::Seen::new();
+    let mut lists = 0;
+    for (what, list) in writing::asked(&words) {
+        lists += 1;
+        if let Some(folder) = words.text("inputs") {
+            write_input(folder, "writer", lists, writing::input(&list));
+        }
+        if let Err((at, why)) = writing::check(&mut library, &list, &mut written) {
+            different += 1;
+            if different <= most {
+                writing::tell(&mut library, &what, &list, at, &why);
+            }
+        }
+    }
     report(programs, &seen);
-    let missing = if least > 0 { missing(&seen, least) } else { Vec::new() };
+    written.print();
+    let missing = if least > 0 { missing(&seen, &written, least) } else { Vec::new() };
     for m in &missing {
         println!("NOT MET {} times: {}", least, m);
     }
-    println!("differential: seed {}, {} programs, {} differ", words.number("seed", 1u64), programs, different + sizes.len());
+    let seed = words.number("seed", 1u64);
+    println!("differential: seed {}, {} programs, {} lists of the image writer, {} differ", seed, programs, lists, different + sizes.len());
     if different + sizes.len() + missing.len() > 0 {
         std::process::exit(1);
     }

@@ -45,6 +45,50 @@ uint64_t face_drain(carderwheel *e, uint8_t *buffer, size_t size, size_t *writte
     return carderwheel_drain(e, buffer, size, written);
 }
 
+size_t face_writer_size(void) {
+    return sizeof(carderwheel_writer);
+}
+
+uint64_t face_write_begin(carderwheel_writer *w, uint8_t *buffer, size_t capacity) {
+    return carderwheel_write_begin(w, buffer, capacity);
+}
+
+uint64_t face_write_template(carderwheel_writer *w, uint64_t parameters, uint64_t locals) {
+    return carderwheel_write_template(w, parameters, locals);
+}
+
+uint64_t face_write_number(carderwheel_writer *w, uint64_t bits) {
+    return carderwheel_write_number(w, bits);
+}
+
+uint64_t face_write_text(carderwheel_writer *w, const uint8_t *bytes, size_t size) {
+    return carderwheel_write_text(w, bytes, size);
+}
+
+uint64_t face_write_boolean(carderwheel_writer *w, int value) {
+    return carderwheel_write_boolean(w, value);
+}
+
+uint64_t face_write_null(carderwheel_writer *w) {
+    return carderwheel_write_null(w);
+}
+
+uint64_t face_write_undefined(carderwheel_writer *w) {
+    return carderwheel_write_undefined(w);
+}
+
+uint64_t face_write_function(carderwheel_writer *w, uint64_t template_) {
+    return carderwheel_write_function(w, template_);
+}
+
+uint64_t face_write_code(carderwheel_writer *w, const uint8_t *bytes, size_t size) {
+    return carderwheel_write_code(w, bytes, size);
+}
+
+uint64_t face_write_finish(carderwheel_writer *w, size_t *size) {
+    return carderwheel_write_finish(w, size);
+}
+
 /* A call, by its place in NAMES of calls.rs, with these lengths of the eight stores. */
 uint64_t face_sized(carderwheel *e, size_t call, const size_t *n) {
 #define STORES e->code, n[0], e->places, n[1], e->rows, n[2], e->starts, n[3], e->stacks, n[4], e->heap, n[5], e->text, n[6], e->output, n[7], e->counts

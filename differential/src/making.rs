@@ -74,7 +74,7 @@ fn sprinkle(r: &mut Rng, calls: &mut Vec<Call>) {
     }
 }
 
-fn sample(r: &mut Rng) -> Sample {
+pub fn sample(r: &mut Rng) -> Sample {
     match r.below(10) {
         0..=2 => programs::sample(r),
         3 | 4 => images::sample(r, 60),

@@ -7,7 +7,7 @@ use super::calls::Call;
 type Differs<'a> = &'a mut dyn FnMut(&[Call]) -> bool;
 
 /// Parts of a list taken out, large ones first; `put` makes the calls from what is left.
-fn cut<T: Clone>(mut list: Vec<T>, put: &dyn Fn(&[T]) -> Vec<Call>, differs: Differs) -> Vec<T> {
+pub fn cut<T: Clone, C>(mut list: Vec<T>, put: &dyn Fn(&[T]) -> Vec<C>, differs: &mut dyn FnMut(&[C]) -> bool) -> Vec<T> {
     let mut size = list.len();
     while size > 0 {
         let mut at = 0;

@@ -1,22 +1,24 @@
 //! The script engine of the ice-radar logger, as a safe type that owns its stores.
 //!
-//! [`Engine`] is a plain struct of some 350 KiB ([`limits`] says how much it holds): a `static` behind a lock, a field, or a box of the user's. Nothing is
-//! allocated. Every call answers with document 01's number where it is refused, and then has altered nothing; a run that started is not refused, however it
-//! ends. docs/EMBEDDING.md has the calling order and what to do about each number.
+//! [`Engine`] is a plain struct of some 350 KiB ([`limits`] says how much it holds): a `static` behind a lock, a field, or a box of the user's. [`Writer`]
+//! makes images for it, in a buffer of the user's. Nothing is allocated. Every call answers with the number of document 01 or 02 where it is refused, and
+//! then has altered nothing; a run that started is not refused, however it ends. docs/EMBEDDING.md has the calling order and what to do about each number.
 #![no_std]
 #![deny(missing_docs, unsafe_op_in_unsafe_fn, clippy::undocumented_unsafe_blocks)]
 
 const _: () = assert!(usize::BITS == 64, "the library takes and gives sizes of 64 bits");
 
 pub mod limits;
+mod writer;
 
 use limits::*;
 pub use limits::{CODE_BYTES, OUTPUT_BYTES, TEXT_BYTES};
+pub use writer::{Constant, Writer};
 
 const STACK_WORDS: usize = 3 * OPERANDS + 3 * SLOTS + 5 * FRAMES + 3 * HANDLERS;
 const HEAP_WORDS: usize = 2 * FUNCTIONS + OBJECTS + 6 * PROPERTIES + 6 * GLOBALS;
 
-/// Document 01's number of the question that was answered no.
+/// Why a call was refused: the number that document 01 or 02 has for it.
 #[derive(Clone, Copy, Debug, PartialEq, Eq)]
 pub struct Refusal(pub u64);
 
@@ -114,7 +116,7 @@ impl<'b> Iterator for Lines<'b> {
     }
 }
 
-// What the library exports. include/carderwheel.h declares the same.
+// What the library exports for an engine. include/carderwheel.h declares the same.
 
 #[repr(C)]
 #[derive(Clone, Copy)]

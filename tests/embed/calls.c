@@ -1,5 +1,5 @@
-/* Every call of the header, accepted and refused, with the numbers of document 01; and that a refused call alters nothing. Prints nothing where all
-   is well. */
+/* Every call of the header, accepted and refused, with the numbers of documents 01 and 02; and that a refused call alters nothing. Prints nothing where
+   all is well. */
 #include "carderwheel.h"
 
 #include <stdio.h>
@@ -15,6 +15,16 @@ typedef struct world {
 } world;
 
 static world now, before;
+
+/* the same of the writer's calls; the buffer has room for 65,536 templates, and no padding follows it */
+typedef struct desk {
+    carderwheel_writer writer;
+    size_t size;
+    uint8_t buffer[8 + 8 * 65536];
+} desk;
+
+static desk at, was;
+static uint8_t many[65536]; /* zeros */
 static uint64_t more[CARDERWHEEL_STACK_WORDS + 3]; /* stacks with room for a handler more */
 static int wrong;
 
@@ -32,6 +42,37 @@ static int wrong;
         before = now;                                                                                                  \
         SAME(call, number);                                                                                            \
         SAME(memcmp(&now, &before, sizeof now), 0);                                                                    \
+    } while (0)
+
+/* The same of a call of the writer. */
+#define UNWRITTEN(call, number)                                                                                        \
+    do {                                                                                                               \
+        at.size = 99;                                                                                                  \
+        was = at;                                                                                                      \
+        SAME(call, number);                                                                                            \
+        SAME(memcmp(&at, &was, sizeof at), 0);                                                                         \
+    } while (0)
+
+/* The image is these bytes so far, and those past them are as `begun` left them. */
+#define HAS(...)                                                                                                       \
+    do {                                                                                                               \
+        const uint8_t bytes[] = {__VA_ARGS__};                                                                         \
+        SAME(at.writer.state.size, sizeof bytes);                                                                      \
+        SAME(memcmp(at.buffer, bytes, sizeof bytes), 0);                                                               \
+        SAME(changed(sizeof bytes, sizeof at.buffer), 0);                                                              \
+    } while (0)
+
+/* The call takes so many bytes, behind the 10 of a first template. */
+#define TAKES(count, call)                                                                                             \
+    do {                                                                                                               \
+        begun(10 + (count) - 1);                                                                                       \
+        SAME(carderwheel_write_template(&at.writer, 0, 0), 0);                                                         \
+        UNWRITTEN(call, 31);                                                                                           \
+        begun(10 + (count));                                                                                           \
+        SAME(carderwheel_write_template(&at.writer, 0, 0), 0);                                                         \
+        SAME(call, 0);                                                                                                 \
+        SAME(at.writer.state.size, 10 + (count));                                                                      \
+        SAME(changed(10 + (count), sizeof at.buffer), 0);                                                              \
     } while (0)
 
 #define TEXT(s) (const uint8_t *)(s), sizeof(s) - 1
@@ -155,6 +196,218 @@ static void calls(void) {
     SAME(now.engine.counts.images, 0);
 }
 
+/* How many of the desk's bytes from one place to another are not what `begun` left there. */
+static size_t changed(size_t from, size_t to) {
+    size_t n = 0;
+    for (; from < to; from++) n += at.buffer[from] != 0xA5;
+    return n;
+}
+
+/* An image is begun, in so many bytes. */
+static void begun(size_t capacity) {
+    memset(at.buffer, 0xA5, sizeof at.buffer);
+    SAME(carderwheel_write_begin(&at.writer, at.buffer, capacity), 0);
+}
+
+/* No constant and no code is taken. */
+static void no_item(void) {
+    UNWRITTEN(carderwheel_write_number(&at.writer, 7), 34);
+    UNWRITTEN(carderwheel_write_text(&at.writer, TEXT("ice")), 34);
+    UNWRITTEN(carderwheel_write_text(&at.writer, NULL, 0), 34);
+    UNWRITTEN(carderwheel_write_boolean(&at.writer, 1), 34);
+    UNWRITTEN(carderwheel_write_null(&at.writer), 34);
+    UNWRITTEN(carderwheel_write_undefined(&at.writer), 34);
+    UNWRITTEN(carderwheel_write_function(&at.writer, 1), 34);
+    UNWRITTEN(carderwheel_write_code(&at.writer, TEXT("\xFF")), 34);
+    UNWRITTEN(carderwheel_write_code(&at.writer, NULL, 0), 34);
+}
+
+static void nothing_but_begin(void) {
+    no_item();
+    UNWRITTEN(carderwheel_write_template(&at.writer, 0, 0), 34);
+    UNWRITTEN(carderwheel_write_finish(&at.writer, &at.size), 34);
+}
+
+/* Document 01's sample, from its number on. */
+static void sample_from_number(void) {
+    SAME(carderwheel_write_number(&at.writer, seven.first), 0);
+    HAS(0, 1, 0, 0, 0, 0, 0, 1, 0, 0, 0, 0, 7, 0, 0, 0, 0, 0, 0);
+    SAME(carderwheel_write_code(&at.writer, sample + 19, 9), 0);
+    SAME(carderwheel_write_finish(&at.writer, &at.size), 0);
+    SAME(at.size, sizeof sample);
+    HAS(0, 1, 0, 0, 0, 0, 0, 1, 0, 0, 0, 0, 7, 0, 0, 0, 0, 0, 9, 0x4B, 0, 8, 0, 0, 0, 0x4A, 0xFF, 0xFF);
+    SAME(memcmp(at.buffer, sample, sizeof sample), 0);
+}
+
+/* All calls of the writer. */
+static void writes(void) {
+    uint64_t i;
+
+    /* before a begin; a begin with too few bytes */
+    memset(&at.writer, 0, sizeof at.writer);
+    nothing_but_begin();
+    memset(&at.writer, 0xFF, sizeof at.writer);
+    UNWRITTEN(carderwheel_write_begin(&at.writer, NULL, 0), 31);
+    UNWRITTEN(carderwheel_write_begin(&at.writer, at.buffer, 1), 31);
+
+    begun(sizeof at.buffer);
+    HAS(0, 0);
+    no_item();
+    SAME(carderwheel_write_template(&at.writer, 0, 0), 0);
+    HAS(0, 1, 0, 0, 0, 0, 0, 0, 0, 0);
+    sample_from_number();
+    nothing_but_begin();
+    SAME(carderwheel_clear(&now.engine), 0);
+    SAME(carderwheel_load(&now.engine, at.buffer, at.size, &now.n), 0);
+    SAME(carderwheel_run(&now.engine, now.n).value.first, seven.first);
+
+    /* each kind of constant, and no code */
+    begun(sizeof at.buffer);
+    SAME(carderwheel_write_template(&at.writer, 0x0102, 0x0304), 0);
+    SAME(carderwheel_write_number(&at.writer, 0x8090A0B0C0D0E0F0), 0);
+    SAME(carderwheel_write_text(&at.writer, TEXT("ice")), 0);
+    SAME(carderwheel_write_text(&at.writer, NULL, 0), 0);
+    SAME(carderwheel_write_boolean(&at.writer, -256), 0);
+    SAME(carderwheel_write_boolean(&at.writer, 0), 0);
+    SAME(carderwheel_write_null(&at.writer), 0);
+    SAME(carderwheel_write_undefined(&at.writer), 0);
+    SAME(carderwheel_write_function(&at.writer, 1), 0);
+    SAME(carderwheel_write_template(&at.writer, 0, 0), 0);
+    HAS(0, 2, 1, 2, 3, 4, 0, 8, 0, 0x80, 0x90, 0xA0, 0xB0, 0xC0, 0xD0, 0xE0, 0xF0, 1, 0, 3, 'i', 'c', 'e', 1, 0, 0, 2, 1, 2, 0, 3, 4, 5, 0, 1, 0, 0,
+        0, 0, 0, 0, 0, 0, 0, 0);
+    SAME(carderwheel_write_finish(&at.writer, &at.size), 0);
+    SAME(carderwheel_load(&now.engine, at.buffer, at.size, &now.n), 0);
+
+    /* after code, of no bytes too, only a template or the finish comes */
+    begun(sizeof at.buffer);
+    SAME(carderwheel_write_template(&at.writer, 0, 0), 0);
+    SAME(carderwheel_write_code(&at.writer, NULL, 0), 0);
+    no_item();
+    SAME(carderwheel_write_template(&at.writer, 0, 0), 0);
+    SAME(carderwheel_write_code(&at.writer, TEXT("\xFF")), 0);
+    no_item();
+    HAS(0, 2, 0, 0, 0, 0, 0, 0, 0, 0, 0, 0, 0, 0, 0, 0, 0, 1, 0xFF);
+
+    /* what load refuses is not the writer's to judge */
+    begun(2);
+    SAME(carderwheel_write_finish(&at.writer, &at.size), 0);
+    SAME(at.size, 2);
+    HAS(0, 0);
+    REFUSED(carderwheel_load(&now.engine, at.buffer, at.size, &now.n), 2);
+    begun(sizeof at.buffer);
+    SAME(carderwheel_write_template(&at.writer, 0, 0), 0);
+    SAME(carderwheel_write_text(&at.writer, TEXT("\xC8")), 0);
+    REFUSED(carderwheel_load(&now.engine, at.buffer, at.writer.state.size, &now.n), 5);
+    begun(sizeof at.buffer);
+    SAME(carderwheel_write_template(&at.writer, 0, 0), 0);
+    SAME(carderwheel_write_function(&at.writer, 0), 0);
+    REFUSED(carderwheel_load(&now.engine, at.buffer, at.writer.state.size, &now.n), 6);
+
+    /* a begin that is refused leaves the image under way; one that is not starts anew, and the bytes past its two stay */
+    begun(sizeof at.buffer);
+    SAME(carderwheel_write_template(&at.writer, 0, 0), 0);
+    UNWRITTEN(carderwheel_write_begin(&at.writer, NULL, 0), 31);
+    UNWRITTEN(carderwheel_write_begin(&at.writer, at.buffer, 1), 31);
+    sample_from_number();
+    begun(64);
+    SAME(carderwheel_write_template(&at.writer, 5, 6), 0);
+    SAME(carderwheel_write_text(&at.writer, TEXT("ice")), 0);
+    was = at;
+    SAME(carderwheel_write_begin(&at.writer, at.buffer, 64), 0);
+    SAME(at.writer.state.size, 2);
+    SAME(at.buffer[1], 0);
+    SAME(memcmp(at.buffer + 2, was.buffer + 2, sizeof at.buffer - 2), 0);
+    /* in another buffer */
+    SAME(carderwheel_write_begin(&at.writer, at.buffer + 64, 10), 0);
+    SAME(carderwheel_write_template(&at.writer, 0, 0), 0);
+    UNWRITTEN(carderwheel_write_null(&at.writer), 31);
+    SAME(at.buffer[65], 1);
+    SAME(memcmp(at.buffer + 2, was.buffer + 2, 62), 0);
+    SAME(changed(74, sizeof at.buffer), 0);
+
+    /* the bytes that each call takes */
+    begun(9);
+    UNWRITTEN(carderwheel_write_template(&at.writer, 65535, 65535), 31);
+    begun(10);
+    SAME(carderwheel_write_template(&at.writer, 65535, 65535), 0);
+    HAS(0, 1, 0xFF, 0xFF, 0xFF, 0xFF, 0, 0, 0, 0);
+    TAKES(8, carderwheel_write_template(&at.writer, 0, 0));
+    TAKES(9, carderwheel_write_number(&at.writer, seven.first));
+    TAKES(6, carderwheel_write_text(&at.writer, TEXT("ice")));
+    TAKES(3, carderwheel_write_text(&at.writer, NULL, 0));
+    TAKES(2, carderwheel_write_boolean(&at.writer, 0));
+    TAKES(1, carderwheel_write_null(&at.writer));
+    TAKES(1, carderwheel_write_undefined(&at.writer));
+    TAKES(3, carderwheel_write_function(&at.writer, 65535));
+    TAKES(1, carderwheel_write_code(&at.writer, TEXT("\xFF")));
+    TAKES(65538, carderwheel_write_text(&at.writer, many, 65535));
+    TAKES(65535, carderwheel_write_code(&at.writer, many, 65535));
+    begun(10);
+    SAME(carderwheel_write_template(&at.writer, 0, 0), 0);
+    SAME(carderwheel_write_code(&at.writer, NULL, 0), 0);
+
+    /* numbers above 65,535: 34, with room and without */
+    for (i = 0; i < 2; i++) {
+        begun(i == 0 ? 2 : sizeof at.buffer);
+        UNWRITTEN(carderwheel_write_template(&at.writer, 65536, 0), 34);
+        UNWRITTEN(carderwheel_write_template(&at.writer, 0, 65536), 34);
+        UNWRITTEN(carderwheel_write_template(&at.writer, 0, UINT64_MAX), 34);
+        begun(i == 0 ? 10 : sizeof at.buffer);
+        SAME(carderwheel_write_template(&at.writer, 0, 0), 0);
+        UNWRITTEN(carderwheel_write_text(&at.writer, many, 65536), 34);
+        UNWRITTEN(carderwheel_write_code(&at.writer, many, 65536), 34);
+        UNWRITTEN(carderwheel_write_function(&at.writer, 65536), 34);
+        UNWRITTEN(carderwheel_write_function(&at.writer, UINT64_MAX), 34);
+    }
+    begun(sizeof at.buffer);
+    for (i = 0; i < 65535; i++) SAME(carderwheel_write_template(&at.writer, 0, 0), 0);
+    UNWRITTEN(carderwheel_write_template(&at.writer, 0, 0), 34);
+    SAME(at.buffer[0] << 8 | at.buffer[1], 65535);
+    SAME(carderwheel_write_finish(&at.writer, &at.size), 0);
+    SAME(at.size, 2 + 8 * 65535);
+    SAME(changed(at.size, sizeof at.buffer), 0);
+    begun(sizeof at.buffer);
+    SAME(carderwheel_write_template(&at.writer, 0, 0), 0);
+    for (i = 0; i < 65535; i++) SAME(carderwheel_write_null(&at.writer), 0);
+    UNWRITTEN(carderwheel_write_null(&at.writer), 34);
+    SAME(at.buffer[6] << 8 | at.buffer[7], 65535);
+    SAME(at.writer.state.size, 10 + 65535);
+    SAME(changed(10 + 65535, sizeof at.buffer), 0);
+}
+
+/* States that no call left: whatever a call answers, it stays in its buffer. */
+static void any_state(void) {
+    static const uint64_t numbers[] = {0, 1, 2, 3, 7, 8, 10, 31, 32, 33, 65535, 65536, UINT64_MAX - 7, UINT64_MAX};
+    enum { COUNT = sizeof numbers / sizeof *numbers };
+    const carderwheel_writer_state zeros = {0, 0, 0, 0, 0};
+    unsigned i, call;
+    memset(at.buffer, 0xA5, sizeof at.buffer);
+    at.writer.buffer = at.buffer + 32;
+    at.writer.capacity = 32;
+    for (i = 0; i < 5 * COUNT * COUNT * COUNT; i++) {
+        for (call = 0; call < 10; call++) {
+            carderwheel_writer *w = &at.writer;
+            w->state = zeros;
+            w->state.stage = i % 5;
+            w->state.size = numbers[i / 5 % COUNT];
+            w->state.at = numbers[i / 5 / COUNT % COUNT];
+            w->state.templates = w->state.constants = numbers[i / 5 / COUNT / COUNT];
+            if (call == 0) carderwheel_write_begin(w, w->buffer, w->capacity);
+            if (call == 1) carderwheel_write_template(w, 1, 1);
+            if (call == 2) carderwheel_write_number(w, seven.first);
+            if (call == 3) carderwheel_write_text(w, TEXT("ice"));
+            if (call == 4) carderwheel_write_boolean(w, 1);
+            if (call == 5) carderwheel_write_null(w);
+            if (call == 6) carderwheel_write_undefined(w);
+            if (call == 7) carderwheel_write_function(w, 1);
+            if (call == 8) carderwheel_write_code(w, TEXT("ice"));
+            if (call == 9) carderwheel_write_finish(w, &at.size);
+        }
+    }
+    SAME(changed(0, 32), 0);
+    SAME(changed(64, sizeof at.buffer), 0);
+}
+
 int main(void) {
     /* memory of any contents: counts that pass their stores are refused by every call but clear, which makes a fresh engine of them */
     memset(&now, 0xFF, sizeof now);
@@ -171,5 +424,8 @@ int main(void) {
 
     memset(&now, 0, sizeof now);
     calls();
+
+    writes();
+    any_state();
     return wrong;
 }

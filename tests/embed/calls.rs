@@ -1,6 +1,6 @@
-//! Every call of the Rust type, accepted and refused, with the numbers of document 01; and that a refused call alters nothing. Prints nothing where all
-//! is well.
-use carderwheel::{limits, Counts, Engine, Ran, Refusal, Value, CODE_BYTES, OUTPUT_BYTES};
+//! Every call of the Rust types, accepted and refused, with the numbers of documents 01 and 02; and that a refused call alters nothing. Prints nothing where
+//! all is well.
+use carderwheel::{limits, Constant, Counts, Engine, Ran, Refusal, Value, Writer, CODE_BYTES, OUTPUT_BYTES};
 use std::sync::Mutex;
 
 // Document 01's sample: a throw of 7 that is caught; a chunk whose only byte is no opcode, with an empty template after it; one that prints `ice` by a
@@ -78,6 +78,136 @@ fn calls(engine: &mut Engine) {
     assert_eq!((engine.counts().handlers, engine.counts().ip), (limits::HANDLERS, 0));
 }
 
+// A call of the writer is refused with this number, and alters neither its state nor a byte of its buffer: its Debug shows both.
+macro_rules! unwritten {
+    ($writer:ident, $call:expr, $number:expr) => {
+        let before = format!("{:?}", $writer);
+        assert_eq!($call.err(), Some(Refusal($number)));
+        assert!(format!("{:?}", $writer) == before, "a refused call altered the writer");
+    };
+}
+
+const CONSTANTS: [(Constant, usize); 8] = [
+    (Constant::Number(7 << 32), 9),
+    (Constant::Text(b"ice"), 6),
+    (Constant::Text(b""), 3),
+    (Constant::Boolean(true), 2),
+    (Constant::Boolean(false), 2),
+    (Constant::Null, 1),
+    (Constant::Undefined, 1),
+    (Constant::Function(65535), 3),
+];
+
+fn no_item(writer: &mut Writer) {
+    for (constant, _) in CONSTANTS {
+        unwritten!(writer, writer.constant(constant), 34);
+    }
+    unwritten!(writer, writer.code(&[0xFF]), 34);
+    unwritten!(writer, writer.code(&[]), 34);
+}
+
+fn nothing_but_begin(writer: &mut Writer) {
+    no_item(writer);
+    unwritten!(writer, writer.template(0, 0), 34);
+    unwritten!(writer, writer.finish(), 34);
+}
+
+// All calls of the writer.
+fn writes(engine: &mut Engine) -> Result<(), Refusal> {
+    let mut empty = Writer::new(&mut []);
+    nothing_but_begin(&mut empty);
+    unwritten!(empty, empty.begin(), 31);
+    assert_eq!(empty.written(), []);
+
+    // document 01's sample, after an image that a begin leaves unfinished
+    let mut buffer = [0xA5; 64];
+    let mut writer = Writer::new(&mut buffer);
+    nothing_but_begin(&mut writer);
+    assert_eq!(writer.begin()?.written(), [0, 0]);
+    no_item(&mut writer);
+    writer.template(5, 6)?.constant(Constant::Text(b"ice"))?;
+    assert_eq!(writer.begin()?.written(), [0, 0]);
+    assert_eq!(writer.template(0, 0)?.written(), [0, 1, 0, 0, 0, 0, 0, 0, 0, 0]);
+    writer.constant(Constant::Number(7 << 32))?;
+    assert_eq!(writer.written(), [0, 1, 0, 0, 0, 0, 0, 1, 0, 0, 0, 0, 7, 0, 0, 0, 0, 0, 0]);
+    writer.code(&SAMPLE[19..])?;
+    no_item(&mut writer);
+    assert_eq!(writer.finish()?, SAMPLE);
+    nothing_but_begin(&mut writer);
+    assert_eq!(writer.written(), SAMPLE);
+    engine.clear();
+    let loaded = engine.load(writer.written())?;
+    assert_eq!(engine.run(loaded)?.value, SEVEN);
+    assert_eq!(buffer[28..], [0xA5; 36]);
+
+    // each kind of constant; code of no bytes is code
+    let mut writer = Writer::new(&mut buffer);
+    writer.begin()?.template(0x0102, 0x0304)?.constant(Constant::Number(-2))?.constant(Constant::Text(b"ice"))?.constant(Constant::Text(b""))?;
+    writer.constant(Constant::Boolean(true))?.constant(Constant::Boolean(false))?.constant(Constant::Null)?.constant(Constant::Undefined)?;
+    writer.constant(Constant::Function(1))?.template(0, 0)?.code(&[])?;
+    no_item(&mut writer);
+    let image = writer.finish()?;
+    assert_eq!(image, b"\0\x02\x01\x02\x03\x04\0\x08\0\xFF\xFF\xFF\xFF\xFF\xFF\xFF\xFE\x01\0\x03ice\x01\0\0\x02\x01\x02\0\x03\x04\x05\0\x01\0\0\0\0\0\0\0\0\0\0");
+    engine.load(image)?;
+
+    // what load refuses is not the writer's to judge
+    let mut writer = Writer::new(&mut buffer);
+    assert_eq!(engine.load(writer.begin()?.finish()?), Err(Refusal(2)));
+    assert_eq!(engine.load(writer.begin()?.template(0, 0)?.constant(Constant::Text(b"\xC8"))?.written()), Err(Refusal(5)));
+    assert_eq!(engine.load(writer.begin()?.template(0, 0)?.constant(Constant::Function(0))?.written()), Err(Refusal(6)));
+
+    // the bytes that each call takes
+    let mut writer = Writer::new(&mut buffer[..1]);
+    unwritten!(writer, writer.begin(), 31);
+    let mut writer = Writer::new(&mut buffer[..2]);
+    writer.begin()?;
+    unwritten!(writer, writer.template(65535, 65535), 31);
+    unwritten!(writer, writer.template(65536, 0), 34);
+    unwritten!(writer, writer.template(0, 65536), 34);
+    unwritten!(writer, writer.template(0, u64::MAX), 34);
+    writer.finish()?;
+    for (constant, bytes) in CONSTANTS {
+        let mut writer = Writer::new(&mut buffer[..10 + bytes - 1]);
+        writer.begin()?.template(65535, 65535)?;
+        unwritten!(writer, writer.constant(constant), 31);
+        let mut writer = Writer::new(&mut buffer[..10 + bytes]);
+        assert_eq!(writer.begin()?.template(65535, 65535)?.constant(constant)?.code(&[])?.written().len(), 10 + bytes);
+    }
+    let mut writer = Writer::new(&mut buffer[..10]);
+    writer.begin()?.template(0, 0)?;
+    unwritten!(writer, writer.template(0, 0), 31);
+    unwritten!(writer, writer.code(&[0xFF]), 31);
+    unwritten!(writer, writer.code(&[0; 65535]), 31);
+    unwritten!(writer, writer.code(&[0; 65536]), 34);
+    unwritten!(writer, writer.constant(Constant::Text(&[0; 65535])), 31);
+    unwritten!(writer, writer.constant(Constant::Text(&[0; 65536])), 34);
+    unwritten!(writer, writer.constant(Constant::Function(65536)), 34);
+    unwritten!(writer, writer.constant(Constant::Function(u64::MAX)), 34);
+    assert_eq!(writer.written(), [0, 1, 0, 0, 0, 0, 0, 0, 0, 0]);
+
+    // counts and lengths up to 65,535, and no further
+    let mut large = vec![0xA5; 2 + 8 * 65536];
+    let mut writer = Writer::new(&mut large);
+    writer.begin()?.template(65535, 65535)?.constant(Constant::Text(&[0; 65535]))?.code(&[0; 65535])?;
+    let image = writer.finish()?;
+    assert_eq!(image.len(), 10 + 65538 + 65535);
+    assert_eq!(image[..11], [0, 1, 0xFF, 0xFF, 0xFF, 0xFF, 0, 1, 1, 0xFF, 0xFF]);
+    assert_eq!(image[11 + 65535..][..3], [0xFF, 0xFF, 0]);
+    writer.begin()?;
+    for _ in 0..65535 {
+        writer.template(0, 0)?;
+    }
+    unwritten!(writer, writer.template(0, 0), 34);
+    assert_eq!(writer.written().len(), 2 + 8 * 65535);
+    writer.begin()?.template(0, 0)?;
+    for _ in 0..65535 {
+        writer.constant(Constant::Null)?;
+    }
+    unwritten!(writer, writer.constant(Constant::Null), 34);
+    assert_eq!(writer.finish()?[..8], [0, 1, 0, 0, 0, 0, 0xFF, 0xFF]);
+    Ok(())
+}
+
 fn main() {
     let mut engine = ENGINE.lock().unwrap();
     let mut buffer = [0; 8];
@@ -90,4 +220,6 @@ fn main() {
     refused!(engine, buffer, engine.run(0), 33);
     refused!(engine, buffer, engine.text(SEVEN, &mut buffer), 33);
     calls(&mut engine);
+
+    writes(&mut engine).unwrap();
 }

@@ -1,4 +1,4 @@
-//! What C is told of the engine's answers: one flat struct a shape, and values as three words.
+//! What C is told of the engine's and the image writer's answers: one flat struct a shape, and values as three words.
 use heapops::Counts;
 use host::Changed;
 use host::Drained;
@@ -11,6 +11,8 @@ use run::Ran;
 use value::JsVmError;
 use value::Value;
 use value::Words;
+use writer::Writer;
+use writer::Written;
 ghost use mathlib.Core.Path.{_≡_};
 ghost use Rattle.machine.specs.Host as Host;
 ghost use Rattle.value.specs.Errors.{errorOf};
@@ -18,6 +20,7 @@ ghost use Rattle.value.specs.Words.{valueOf};
 ghost use Rattle.run.specs.Runs.{resultOf};
 ghost use Rattle.host.specs.Calls.{answerOfNumbered, countsOfNumbered, answerOfChanged, countsOfChanged, answerOfRead, answerOfRun, countsOfRun};
 ghost use Rattle.answers.specs.Flat.{answer, told, toldValue, toldRun, flatText, flatDrain, errorOpcode, opcodeOf, valueBy};
+ghost use Rattle.answers.specs.Written.{toldWrite};
 
 // A call's number, 0 where it was accepted; an image's number or the bytes written; and what is in use then.
 #[repr(C)]
@@ -43,6 +46,13 @@ pub struct RunTold {
     pub opcode: u64,
     pub value: Words,
     pub counts: Counts,
+}
+
+// Of a call of the image writer: its number, 0 where it was accepted, and the writer as it stands then.
+#[repr(C)]
+pub struct WriteTold {
+    pub number: u64,
+    pub writer: Writer,
 }
 
 // A value that C gives, by its words.
@@ -179,5 +189,20 @@ fn opcode_of(e: JsVmError) -> u64
         JsVmError::NotCallable => 0,
         JsVmError::InvalidFunctionId => 0,
         JsVmError::NoCallFrame => 0,
+    }
+}
+
+pub fn written(w: Writer, x: Written) -> WriteTold
+    ensures { λ r. ⌜ r ≡ toldWrite w x ⌝ }
+{
+    match x {
+        Written::Wrote(y) => WriteTold {
+            number: 0,
+            writer: y,
+        },
+        Written::Refused(n) => WriteTold {
+            number: n,
+            writer: w,
+        },
     }
 }

@@ -1,4 +1,5 @@
 //! The C face of the host calls: the stores as slices, the counts by value, and one flat answer a shape. include/carderwheel.h gives them one struct.
+//! write.rt has that of the image writer.
 use answers::Answer;
 use answers::RunTold;
 use answers::ValueAnswer;
@@ -18,6 +19,8 @@ ghost use Rattle.heapops.specs.Turns.{mem};
 ghost use Rattle.finish.specs.Parts.{tables};
 ghost use Rattle.host.specs.Calls.{Buffered};
 ghost use Rattle.answers.specs.Flat.{Tells, TellsValue, TellsRun, TellsClear, numberedBy, changedBy, wroteBy, valueBy};
+
+mod write;
 
 #[no_mangle]
 pub extern "C" fn carderwheel_clear_in(

@@ -1,4 +1,8 @@
 pub mod Images
+pub mod Format
+pub mod Loads
+pub mod Writes
+pub mod Writer
 pub mod Texts
 pub mod Frames
 pub mod Sound

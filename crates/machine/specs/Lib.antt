@@ -12,6 +12,8 @@ pub mod Program
 pub mod Instruction
 pub mod Run
 pub mod Host
+pub mod Format
+pub mod Writer
 pub mod Tally
 pub mod Demand3
 pub mod Tries

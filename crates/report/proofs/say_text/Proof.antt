@@ -1,9 +1,9 @@
--- `runimage::say_text` meets its contract. Assumes nothing.
+-- `report::say_text` meets its contract. Assumes nothing.
 use borrow.Author.Needs.{needs}
 use mathlib.Core.Path.{sym}
 use lib.Seq.{length-take-le}
-use Rattle.runimage.proofs.say_text.Statement.{statement}
-use Rattle.runimage.proofs.say_text.Tie as tie
+use Rattle.report.proofs.say_text.Statement.{statement}
+use Rattle.report.proofs.say_text.Tie as tie
 
 slice-aggregate-write-all : tie.Need-slice-aggregate-write-all
 slice-aggregate-write-all c = sym (length-take-le (c .before .before .before .args .n) (c .before .before .before .args .text .now) (c .before .if1 .taken))

@@ -1,7 +1,7 @@
--- `runimage::lines` meets its contract. Assumes nothing.
+-- `report::lines` meets its contract. Assumes nothing.
 use borrow.Author.Needs.{needs}
-use Rattle.runimage.proofs.lines.Statement.{statement}
-use Rattle.runimage.proofs.lines.Tie as tie
+use Rattle.report.proofs.lines.Statement.{statement}
+use Rattle.report.proofs.lines.Tie as tie
 
 abbrev Inv-loop : tie.InvT-loop
 Inv-loop s n at₀ left₀ at left = Unit {0}
