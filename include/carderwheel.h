@@ -299,8 +299,8 @@ static inline uint64_t carderwheel_write_begin(carderwheel_writer *w, uint8_t *b
     return a.number;
 }
 
-/* Opens a template; templates are numbered from 0, which is the one that a run starts with. 8 bytes. The numbers are wider than their places in the image so
-   that one above 65,535 is refused. */
+/* Opens a template; templates are numbered from 0, which is the one that a run starts with. Takes 8 bytes. The numbers are wider than their places in
+   the image, so that one above 65,535 is refused. */
 static inline uint64_t carderwheel_write_template(carderwheel_writer *w, uint64_t parameters, uint64_t locals) {
     uint8_t none;
     return carderwheel_settle_(w, carderwheel_write_template_in(CARDERWHEEL_WRITER_(w, &none), parameters, locals));
@@ -312,31 +312,31 @@ static inline uint64_t carderwheel_write_number(carderwheel_writer *w, uint64_t 
     return carderwheel_settle_(w, carderwheel_write_number_in(CARDERWHEEL_WRITER_(w, &none), bits));
 }
 
-/* 3 bytes and its own. */
+/* A text: 3 bytes and its own. */
 static inline uint64_t carderwheel_write_text(carderwheel_writer *w, const uint8_t *bytes, size_t size) {
     uint8_t none;
     return carderwheel_settle_(w, carderwheel_write_text_in(CARDERWHEEL_WRITER_(w, &none), carderwheel_bytes_(bytes, size), size));
 }
 
-/* 0 is false, anything else true. 2 bytes. */
+/* A boolean, 0 for false, anything else for true: 2 bytes. */
 static inline uint64_t carderwheel_write_boolean(carderwheel_writer *w, int value) {
     uint8_t none;
     return carderwheel_settle_(w, carderwheel_write_boolean_in(CARDERWHEEL_WRITER_(w, &none), value != 0));
 }
 
-/* 1 byte. */
+/* null: 1 byte. */
 static inline uint64_t carderwheel_write_null(carderwheel_writer *w) {
     uint8_t none;
     return carderwheel_settle_(w, carderwheel_write_null_in(CARDERWHEEL_WRITER_(w, &none)));
 }
 
-/* 1 byte. */
+/* undefined: 1 byte. */
 static inline uint64_t carderwheel_write_undefined(carderwheel_writer *w) {
     uint8_t none;
     return carderwheel_settle_(w, carderwheel_write_undefined_in(CARDERWHEEL_WRITER_(w, &none)));
 }
 
-/* The function of a template that comes later. 3 bytes. */
+/* The function of a template that comes later: 3 bytes. */
 static inline uint64_t carderwheel_write_function(carderwheel_writer *w, uint64_t template_) {
     uint8_t none;
     return carderwheel_settle_(w, carderwheel_write_function_in(CARDERWHEEL_WRITER_(w, &none), template_));
@@ -348,7 +348,7 @@ static inline uint64_t carderwheel_write_code(carderwheel_writer *w, const uint8
     return carderwheel_settle_(w, carderwheel_write_code_in(CARDERWHEEL_WRITER_(w, &none), carderwheel_bytes_(bytes, size), size));
 }
 
-/* Where it is accepted, the image is *size bytes from the buffer's start on. Takes none. */
+/* Where it is accepted, the image is *size bytes from the buffer's start on. Takes no bytes. */
 static inline uint64_t carderwheel_write_finish(carderwheel_writer *w, size_t *size) {
     carderwheel_wrote_ a = carderwheel_write_finish_in(w->state);
     if (a.number == 0) *size = a.state.size;

@@ -297,13 +297,14 @@ pub struct Seen {
     answers: BTreeMap<u64, usize>,
     /// What came of the loads and runs.
     programs: super::Seen,
-    /// Finished images and their templates, but the long ones.
+    /// Short finished images with their templates, for others that give the same bytes; and how often bytes came again.
     images: HashMap<Vec<u8>, Image>,
+    again: usize,
 }
 
 impl Seen {
     pub fn new() -> Seen {
-        Seen { lists: 0, calls: [0; 10], refusals: BTreeMap::new(), answers: BTreeMap::new(), programs: super::Seen::new(), images: HashMap::new() }
+        Seen { lists: 0, calls: [0; 10], refusals: BTreeMap::new(), answers: BTreeMap::new(), programs: super::Seen::new(), images: HashMap::new(), again: 0 }
     }
 
     fn refused(&self, call: usize, number: u64) -> usize {
@@ -335,7 +336,8 @@ impl Seen {
         }
         let answers: Vec<String> = self.answers.iter().map(|(n, times)| format!("{}:{}", n, times)).collect();
         let (runs, steps) = (self.programs.code.runs, self.programs.code.steps);
-        println!("  images finished and loaded {} (answered {}), {} runs, {} steps", self.answers.values().sum::<usize>(), answers.join(" "), runs, steps);
+        let finished: usize = self.answers.values().sum();
+        println!("  images finished and loaded {} (answered {}; the same bytes again {}), {} runs, {} steps", finished, answers.join(" "), self.again, runs, steps);
     }
 }
 
@@ -418,11 +420,13 @@ pub fn check(library: &mut Library, list: &[Write], seen: &mut Seen) -> Result<(
                     return wrong(format!("equal bytes and equal templates do not go together: {:?}", other.0));
                 }
             }
-            if own.1.len() <= 1000 {
-                let known = seen.images.entry(own.1.clone()).or_insert_with(|| own.0.clone());
-                if !alike(known, &own.0) {
-                    return wrong(format!("another list of templates gave these bytes: {:?}", known));
+            match seen.images.get(&own.1) {
+                Some(known) if !alike(known, &own.0) => return wrong(format!("other templates gave these bytes: {:?}", known)),
+                Some(_) => seen.again += 1,
+                None if own.1.len() <= 64 => {
+                    seen.images.insert(own.1.clone(), own.0.clone());
                 }
+                None => {}
             }
             finished.push(own);
         }
@@ -725,7 +729,7 @@ fn edges() -> Vec<Vec<Write>> {
     vec![constants, templates, lengths.to_vec()]
 }
 
-/// The lists that the words ask for, with their names: of every tenth program's number, and at the start the edges.
+/// The lists that the words ask for, with their names: with every fourth program's number, and at the start the edges.
 pub fn asked(words: &Words) -> Box<dyn Iterator<Item = (String, Vec<Write>)>> {
     let (seed, count, from) = (words.number("seed", 1u64), words.number("count", 20_000u64), words.number("from", 0u64));
     if let Some(file) = words.text("calls") {
@@ -736,7 +740,7 @@ pub fn asked(words: &Words) -> Box<dyn Iterator<Item = (String, Vec<Write>)>> {
     }
     let by_hand = if from == 0 { edges() } else { Vec::new() };
     let named = |(n, list): (usize, Vec<Write>)| (dying::note(format!("list {} of the image writer by hand", n)), list);
-    let made = (from..from + count).filter(|n| n % 10 == 0);
+    let made = (from..from + count).filter(|n| n % 4 == 0);
     let made = made.map(move |n| (dying::note(format!("seed {} list {} of the image writer", seed, n)), list(seed, n)));
     Box::new(by_hand.into_iter().enumerate().map(named).chain(made))
 }

@@ -88,7 +88,7 @@ static void print_lines(const uint8_t *lines, size_t size) {
 }
 
 int main(void) {
-    carderwheel_value echo = {CARDERWHEEL_NUMBER, 0, 0}; /* a two-way time in microseconds, which the host has measured */
+    carderwheel_value echo = {CARDERWHEEL_NUMBER, number_of(12.5), 0}; /* a two-way time in microseconds, as measured */
     carderwheel_ran ran;
     uint64_t loaded, q;
     size_t size, written;
@@ -100,7 +100,6 @@ int main(void) {
     if ((q = carderwheel_write_finish(&writer, &size)) != 0) return refused("finish", q);
     printf("image of %u bytes\n", (unsigned)size);
 
-    echo.first = number_of(12.5);
     if ((q = carderwheel_clear(&engine)) != 0) return refused("clear", q);
     if ((q = carderwheel_load(&engine, image, size, &loaded)) != 0) return refused("load", q);
     if ((q = carderwheel_set_global(&engine, (const uint8_t *)"echo", 4, echo)) != 0) return refused("set global", q);

@@ -83,7 +83,7 @@ fn survey(engine: &mut Engine) -> Result<(), Refusal> {
 
     engine.clear();
     let loaded = engine.load(image)?;
-    engine.set_global(b"echo", Value::Number(number_of(12.5)))?;
+    engine.set_global(b"echo", Value::Number(number_of(12.5)))?; // a two-way time in microseconds, as measured
 
     let mut buffer = [0; TEXT_BYTES];
     let ran = engine.run(loaded)?;

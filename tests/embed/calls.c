@@ -17,13 +17,13 @@ typedef struct world {
 static world now, before;
 
 /* the same of the writer's calls; the buffer has room for 65,536 templates, and no padding follows it */
-typedef struct desk {
+typedef struct paper {
     carderwheel_writer writer;
     size_t size;
     uint8_t buffer[8 + 8 * 65536];
-} desk;
+} paper;
 
-static desk at, was;
+static paper page, page_before;
 static uint8_t many[65536]; /* zeros */
 static uint64_t more[CARDERWHEEL_STACK_WORDS + 3]; /* stacks with room for a handler more */
 static int wrong;
@@ -47,32 +47,32 @@ static int wrong;
 /* The same of a call of the writer. */
 #define UNWRITTEN(call, number)                                                                                        \
     do {                                                                                                               \
-        at.size = 99;                                                                                                  \
-        was = at;                                                                                                      \
+        page.size = 99;                                                                                                \
+        page_before = page;                                                                                            \
         SAME(call, number);                                                                                            \
-        SAME(memcmp(&at, &was, sizeof at), 0);                                                                         \
+        SAME(memcmp(&page, &page_before, sizeof page), 0);                                                             \
     } while (0)
 
 /* The image is these bytes so far, and those past them are as `begun` left them. */
 #define HAS(...)                                                                                                       \
     do {                                                                                                               \
         const uint8_t bytes[] = {__VA_ARGS__};                                                                         \
-        SAME(at.writer.state.size, sizeof bytes);                                                                      \
-        SAME(memcmp(at.buffer, bytes, sizeof bytes), 0);                                                               \
-        SAME(changed(sizeof bytes, sizeof at.buffer), 0);                                                              \
+        SAME(page.writer.state.size, sizeof bytes);                                                                    \
+        SAME(memcmp(page.buffer, bytes, sizeof bytes), 0);                                                             \
+        SAME(changed(sizeof bytes, sizeof page.buffer), 0);                                                            \
     } while (0)
 
 /* The call takes so many bytes, behind the 10 of a first template. */
 #define TAKES(count, call)                                                                                             \
     do {                                                                                                               \
         begun(10 + (count) - 1);                                                                                       \
-        SAME(carderwheel_write_template(&at.writer, 0, 0), 0);                                                         \
+        SAME(carderwheel_write_template(&page.writer, 0, 0), 0);                                                       \
         UNWRITTEN(call, 31);                                                                                           \
         begun(10 + (count));                                                                                           \
-        SAME(carderwheel_write_template(&at.writer, 0, 0), 0);                                                         \
+        SAME(carderwheel_write_template(&page.writer, 0, 0), 0);                                                       \
         SAME(call, 0);                                                                                                 \
-        SAME(at.writer.state.size, 10 + (count));                                                                      \
-        SAME(changed(10 + (count), sizeof at.buffer), 0);                                                              \
+        SAME(page.writer.state.size, 10 + (count));                                                                    \
+        SAME(changed(10 + (count), sizeof page.buffer), 0);                                                            \
     } while (0)
 
 #define TEXT(s) (const uint8_t *)(s), sizeof(s) - 1
@@ -196,183 +196,188 @@ static void calls(void) {
     SAME(now.engine.counts.images, 0);
 }
 
-/* How many of the desk's bytes from one place to another are not what `begun` left there. */
+/* How many of the page's bytes from one place to another are not what `begun` left there. */
 static size_t changed(size_t from, size_t to) {
     size_t n = 0;
-    for (; from < to; from++) n += at.buffer[from] != 0xA5;
+    for (; from < to; from++) n += page.buffer[from] != 0xA5;
     return n;
 }
 
 /* An image is begun, in so many bytes. */
 static void begun(size_t capacity) {
-    memset(at.buffer, 0xA5, sizeof at.buffer);
-    SAME(carderwheel_write_begin(&at.writer, at.buffer, capacity), 0);
+    memset(page.buffer, 0xA5, sizeof page.buffer);
+    SAME(carderwheel_write_begin(&page.writer, page.buffer, capacity), 0);
 }
 
 /* No constant and no code is taken. */
 static void no_item(void) {
-    UNWRITTEN(carderwheel_write_number(&at.writer, 7), 34);
-    UNWRITTEN(carderwheel_write_text(&at.writer, TEXT("ice")), 34);
-    UNWRITTEN(carderwheel_write_text(&at.writer, NULL, 0), 34);
-    UNWRITTEN(carderwheel_write_boolean(&at.writer, 1), 34);
-    UNWRITTEN(carderwheel_write_null(&at.writer), 34);
-    UNWRITTEN(carderwheel_write_undefined(&at.writer), 34);
-    UNWRITTEN(carderwheel_write_function(&at.writer, 1), 34);
-    UNWRITTEN(carderwheel_write_code(&at.writer, TEXT("\xFF")), 34);
-    UNWRITTEN(carderwheel_write_code(&at.writer, NULL, 0), 34);
+    UNWRITTEN(carderwheel_write_number(&page.writer, 7), 34);
+    UNWRITTEN(carderwheel_write_text(&page.writer, TEXT("ice")), 34);
+    UNWRITTEN(carderwheel_write_text(&page.writer, NULL, 0), 34);
+    UNWRITTEN(carderwheel_write_boolean(&page.writer, 1), 34);
+    UNWRITTEN(carderwheel_write_null(&page.writer), 34);
+    UNWRITTEN(carderwheel_write_undefined(&page.writer), 34);
+    UNWRITTEN(carderwheel_write_function(&page.writer, 1), 34);
+    UNWRITTEN(carderwheel_write_code(&page.writer, TEXT("\xFF")), 34);
+    UNWRITTEN(carderwheel_write_code(&page.writer, NULL, 0), 34);
 }
 
 static void nothing_but_begin(void) {
     no_item();
-    UNWRITTEN(carderwheel_write_template(&at.writer, 0, 0), 34);
-    UNWRITTEN(carderwheel_write_finish(&at.writer, &at.size), 34);
+    UNWRITTEN(carderwheel_write_template(&page.writer, 0, 0), 34);
+    UNWRITTEN(carderwheel_write_finish(&page.writer, &page.size), 34);
 }
 
 /* Document 01's sample, from its number on. */
 static void sample_from_number(void) {
-    SAME(carderwheel_write_number(&at.writer, seven.first), 0);
+    SAME(carderwheel_write_number(&page.writer, seven.first), 0);
     HAS(0, 1, 0, 0, 0, 0, 0, 1, 0, 0, 0, 0, 7, 0, 0, 0, 0, 0, 0);
-    SAME(carderwheel_write_code(&at.writer, sample + 19, 9), 0);
-    SAME(carderwheel_write_finish(&at.writer, &at.size), 0);
-    SAME(at.size, sizeof sample);
+    SAME(carderwheel_write_code(&page.writer, sample + 19, 9), 0);
+    SAME(carderwheel_write_finish(&page.writer, &page.size), 0);
+    SAME(page.size, sizeof sample);
     HAS(0, 1, 0, 0, 0, 0, 0, 1, 0, 0, 0, 0, 7, 0, 0, 0, 0, 0, 9, 0x4B, 0, 8, 0, 0, 0, 0x4A, 0xFF, 0xFF);
-    SAME(memcmp(at.buffer, sample, sizeof sample), 0);
+    SAME(memcmp(page.buffer, sample, sizeof sample), 0);
 }
 
 /* All calls of the writer. */
 static void writes(void) {
+    carderwheel_wrote_ a;
     uint64_t i;
 
     /* before a begin; a begin with too few bytes */
-    memset(&at.writer, 0, sizeof at.writer);
+    memset(&page.writer, 0, sizeof page.writer);
     nothing_but_begin();
-    memset(&at.writer, 0xFF, sizeof at.writer);
-    UNWRITTEN(carderwheel_write_begin(&at.writer, NULL, 0), 31);
-    UNWRITTEN(carderwheel_write_begin(&at.writer, at.buffer, 1), 31);
+    memset(&page.writer, 0xFF, sizeof page.writer);
+    UNWRITTEN(carderwheel_write_begin(&page.writer, NULL, 0), 31);
+    UNWRITTEN(carderwheel_write_begin(&page.writer, page.buffer, 1), 31);
 
-    begun(sizeof at.buffer);
+    begun(sizeof page.buffer);
     HAS(0, 0);
     no_item();
-    SAME(carderwheel_write_template(&at.writer, 0, 0), 0);
+    SAME(carderwheel_write_template(&page.writer, 0, 0), 0);
     HAS(0, 1, 0, 0, 0, 0, 0, 0, 0, 0);
     sample_from_number();
     nothing_but_begin();
     SAME(carderwheel_clear(&now.engine), 0);
-    SAME(carderwheel_load(&now.engine, at.buffer, at.size, &now.n), 0);
+    SAME(carderwheel_load(&now.engine, page.buffer, page.writer.state.size, &now.n), 0);
     SAME(carderwheel_run(&now.engine, now.n).value.first, seven.first);
 
     /* each kind of constant, and no code */
-    begun(sizeof at.buffer);
-    SAME(carderwheel_write_template(&at.writer, 0x0102, 0x0304), 0);
-    SAME(carderwheel_write_number(&at.writer, 0x8090A0B0C0D0E0F0), 0);
-    SAME(carderwheel_write_text(&at.writer, TEXT("ice")), 0);
-    SAME(carderwheel_write_text(&at.writer, NULL, 0), 0);
-    SAME(carderwheel_write_boolean(&at.writer, -256), 0);
-    SAME(carderwheel_write_boolean(&at.writer, 0), 0);
-    SAME(carderwheel_write_null(&at.writer), 0);
-    SAME(carderwheel_write_undefined(&at.writer), 0);
-    SAME(carderwheel_write_function(&at.writer, 1), 0);
-    SAME(carderwheel_write_template(&at.writer, 0, 0), 0);
+    begun(sizeof page.buffer);
+    SAME(carderwheel_write_template(&page.writer, 0x0102, 0x0304), 0);
+    SAME(carderwheel_write_number(&page.writer, 0x8090A0B0C0D0E0F0), 0);
+    SAME(carderwheel_write_text(&page.writer, TEXT("ice")), 0);
+    SAME(carderwheel_write_text(&page.writer, NULL, 0), 0);
+    SAME(carderwheel_write_boolean(&page.writer, -256), 0);
+    SAME(carderwheel_write_boolean(&page.writer, 0), 0);
+    SAME(carderwheel_write_null(&page.writer), 0);
+    SAME(carderwheel_write_undefined(&page.writer), 0);
+    SAME(carderwheel_write_function(&page.writer, 1), 0);
+    SAME(carderwheel_write_template(&page.writer, 0, 0), 0);
     HAS(0, 2, 1, 2, 3, 4, 0, 8, 0, 0x80, 0x90, 0xA0, 0xB0, 0xC0, 0xD0, 0xE0, 0xF0, 1, 0, 3, 'i', 'c', 'e', 1, 0, 0, 2, 1, 2, 0, 3, 4, 5, 0, 1, 0, 0,
         0, 0, 0, 0, 0, 0, 0, 0);
-    SAME(carderwheel_write_finish(&at.writer, &at.size), 0);
-    SAME(carderwheel_load(&now.engine, at.buffer, at.size, &now.n), 0);
+    SAME(carderwheel_write_finish(&page.writer, &page.size), 0);
+    SAME(carderwheel_load(&now.engine, page.buffer, page.size, &now.n), 0);
 
     /* after code, of no bytes too, only a template or the finish comes */
-    begun(sizeof at.buffer);
-    SAME(carderwheel_write_template(&at.writer, 0, 0), 0);
-    SAME(carderwheel_write_code(&at.writer, NULL, 0), 0);
+    begun(sizeof page.buffer);
+    SAME(carderwheel_write_template(&page.writer, 0, 0), 0);
+    SAME(carderwheel_write_code(&page.writer, NULL, 0), 0);
     no_item();
-    SAME(carderwheel_write_template(&at.writer, 0, 0), 0);
-    SAME(carderwheel_write_code(&at.writer, TEXT("\xFF")), 0);
+    SAME(carderwheel_write_template(&page.writer, 0, 0), 0);
+    SAME(carderwheel_write_code(&page.writer, TEXT("\xFF")), 0);
     no_item();
     HAS(0, 2, 0, 0, 0, 0, 0, 0, 0, 0, 0, 0, 0, 0, 0, 0, 0, 1, 0xFF);
 
     /* what load refuses is not the writer's to judge */
     begun(2);
-    SAME(carderwheel_write_finish(&at.writer, &at.size), 0);
-    SAME(at.size, 2);
+    SAME(carderwheel_write_finish(&page.writer, &page.size), 0);
+    SAME(page.size, 2);
     HAS(0, 0);
-    REFUSED(carderwheel_load(&now.engine, at.buffer, at.size, &now.n), 2);
-    begun(sizeof at.buffer);
-    SAME(carderwheel_write_template(&at.writer, 0, 0), 0);
-    SAME(carderwheel_write_text(&at.writer, TEXT("\xC8")), 0);
-    REFUSED(carderwheel_load(&now.engine, at.buffer, at.writer.state.size, &now.n), 5);
-    begun(sizeof at.buffer);
-    SAME(carderwheel_write_template(&at.writer, 0, 0), 0);
-    SAME(carderwheel_write_function(&at.writer, 0), 0);
-    REFUSED(carderwheel_load(&now.engine, at.buffer, at.writer.state.size, &now.n), 6);
+    REFUSED(carderwheel_load(&now.engine, page.buffer, page.size, &now.n), 2);
+    begun(sizeof page.buffer);
+    SAME(carderwheel_write_template(&page.writer, 0, 0), 0);
+    SAME(carderwheel_write_text(&page.writer, TEXT("\xC8")), 0);
+    REFUSED(carderwheel_load(&now.engine, page.buffer, page.writer.state.size, &now.n), 5);
+    begun(sizeof page.buffer);
+    SAME(carderwheel_write_template(&page.writer, 0, 0), 0);
+    SAME(carderwheel_write_function(&page.writer, 0), 0);
+    REFUSED(carderwheel_load(&now.engine, page.buffer, page.writer.state.size, &now.n), 6);
 
     /* a begin that is refused leaves the image under way; one that is not starts anew, and the bytes past its two stay */
-    begun(sizeof at.buffer);
-    SAME(carderwheel_write_template(&at.writer, 0, 0), 0);
-    UNWRITTEN(carderwheel_write_begin(&at.writer, NULL, 0), 31);
-    UNWRITTEN(carderwheel_write_begin(&at.writer, at.buffer, 1), 31);
+    begun(sizeof page.buffer);
+    SAME(carderwheel_write_template(&page.writer, 0, 0), 0);
+    UNWRITTEN(carderwheel_write_begin(&page.writer, NULL, 0), 31);
+    UNWRITTEN(carderwheel_write_begin(&page.writer, page.buffer, 1), 31);
+    a = carderwheel_write_begin_in(page.buffer, 1, page.writer.state);
+    SAME(a.number, 31);
+    SAME(memcmp(&a.state, &page.writer.state, sizeof a.state), 0);
     sample_from_number();
     begun(64);
-    SAME(carderwheel_write_template(&at.writer, 5, 6), 0);
-    SAME(carderwheel_write_text(&at.writer, TEXT("ice")), 0);
-    was = at;
-    SAME(carderwheel_write_begin(&at.writer, at.buffer, 64), 0);
-    SAME(at.writer.state.size, 2);
-    SAME(at.buffer[1], 0);
-    SAME(memcmp(at.buffer + 2, was.buffer + 2, sizeof at.buffer - 2), 0);
+    SAME(carderwheel_write_template(&page.writer, 5, 6), 0);
+    SAME(carderwheel_write_text(&page.writer, TEXT("ice")), 0);
+    page_before = page;
+    SAME(carderwheel_write_begin(&page.writer, page.buffer, 64), 0);
+    SAME(page.writer.state.size, 2);
+    SAME(page.buffer[1], 0);
+    SAME(memcmp(page.buffer + 2, page_before.buffer + 2, sizeof page.buffer - 2), 0);
     /* in another buffer */
-    SAME(carderwheel_write_begin(&at.writer, at.buffer + 64, 10), 0);
-    SAME(carderwheel_write_template(&at.writer, 0, 0), 0);
-    UNWRITTEN(carderwheel_write_null(&at.writer), 31);
-    SAME(at.buffer[65], 1);
-    SAME(memcmp(at.buffer + 2, was.buffer + 2, 62), 0);
-    SAME(changed(74, sizeof at.buffer), 0);
+    SAME(carderwheel_write_begin(&page.writer, page.buffer + 64, 10), 0);
+    SAME(carderwheel_write_template(&page.writer, 0, 0), 0);
+    UNWRITTEN(carderwheel_write_null(&page.writer), 31);
+    SAME(page.buffer[65], 1);
+    SAME(memcmp(page.buffer + 2, page_before.buffer + 2, 62), 0);
+    SAME(changed(74, sizeof page.buffer), 0);
 
     /* the bytes that each call takes */
     begun(9);
-    UNWRITTEN(carderwheel_write_template(&at.writer, 65535, 65535), 31);
+    UNWRITTEN(carderwheel_write_template(&page.writer, 65535, 65535), 31);
     begun(10);
-    SAME(carderwheel_write_template(&at.writer, 65535, 65535), 0);
+    SAME(carderwheel_write_template(&page.writer, 65535, 65535), 0);
     HAS(0, 1, 0xFF, 0xFF, 0xFF, 0xFF, 0, 0, 0, 0);
-    TAKES(8, carderwheel_write_template(&at.writer, 0, 0));
-    TAKES(9, carderwheel_write_number(&at.writer, seven.first));
-    TAKES(6, carderwheel_write_text(&at.writer, TEXT("ice")));
-    TAKES(3, carderwheel_write_text(&at.writer, NULL, 0));
-    TAKES(2, carderwheel_write_boolean(&at.writer, 0));
-    TAKES(1, carderwheel_write_null(&at.writer));
-    TAKES(1, carderwheel_write_undefined(&at.writer));
-    TAKES(3, carderwheel_write_function(&at.writer, 65535));
-    TAKES(1, carderwheel_write_code(&at.writer, TEXT("\xFF")));
-    TAKES(65538, carderwheel_write_text(&at.writer, many, 65535));
-    TAKES(65535, carderwheel_write_code(&at.writer, many, 65535));
+    TAKES(8, carderwheel_write_template(&page.writer, 0, 0));
+    TAKES(9, carderwheel_write_number(&page.writer, seven.first));
+    TAKES(6, carderwheel_write_text(&page.writer, TEXT("ice")));
+    TAKES(3, carderwheel_write_text(&page.writer, NULL, 0));
+    TAKES(2, carderwheel_write_boolean(&page.writer, 0));
+    TAKES(1, carderwheel_write_null(&page.writer));
+    TAKES(1, carderwheel_write_undefined(&page.writer));
+    TAKES(3, carderwheel_write_function(&page.writer, 65535));
+    TAKES(1, carderwheel_write_code(&page.writer, TEXT("\xFF")));
+    TAKES(65538, carderwheel_write_text(&page.writer, many, 65535));
+    TAKES(65535, carderwheel_write_code(&page.writer, many, 65535));
     begun(10);
-    SAME(carderwheel_write_template(&at.writer, 0, 0), 0);
-    SAME(carderwheel_write_code(&at.writer, NULL, 0), 0);
+    SAME(carderwheel_write_template(&page.writer, 0, 0), 0);
+    SAME(carderwheel_write_code(&page.writer, NULL, 0), 0);
 
     /* numbers above 65,535: 34, with room and without */
     for (i = 0; i < 2; i++) {
-        begun(i == 0 ? 2 : sizeof at.buffer);
-        UNWRITTEN(carderwheel_write_template(&at.writer, 65536, 0), 34);
-        UNWRITTEN(carderwheel_write_template(&at.writer, 0, 65536), 34);
-        UNWRITTEN(carderwheel_write_template(&at.writer, 0, UINT64_MAX), 34);
-        begun(i == 0 ? 10 : sizeof at.buffer);
-        SAME(carderwheel_write_template(&at.writer, 0, 0), 0);
-        UNWRITTEN(carderwheel_write_text(&at.writer, many, 65536), 34);
-        UNWRITTEN(carderwheel_write_code(&at.writer, many, 65536), 34);
-        UNWRITTEN(carderwheel_write_function(&at.writer, 65536), 34);
-        UNWRITTEN(carderwheel_write_function(&at.writer, UINT64_MAX), 34);
+        begun(i == 0 ? 2 : sizeof page.buffer);
+        UNWRITTEN(carderwheel_write_template(&page.writer, 65536, 0), 34);
+        UNWRITTEN(carderwheel_write_template(&page.writer, 0, 65536), 34);
+        UNWRITTEN(carderwheel_write_template(&page.writer, 1ull << 32, 0), 34);
+        UNWRITTEN(carderwheel_write_template(&page.writer, 0, 1ull << 32), 34);
+        begun(i == 0 ? 10 : sizeof page.buffer);
+        SAME(carderwheel_write_template(&page.writer, 0, 0), 0);
+        UNWRITTEN(carderwheel_write_text(&page.writer, many, 65536), 34);
+        UNWRITTEN(carderwheel_write_code(&page.writer, many, 65536), 34);
+        UNWRITTEN(carderwheel_write_function(&page.writer, 65536), 34);
+        UNWRITTEN(carderwheel_write_function(&page.writer, 1ull << 32), 34);
     }
-    begun(sizeof at.buffer);
-    for (i = 0; i < 65535; i++) SAME(carderwheel_write_template(&at.writer, 0, 0), 0);
-    UNWRITTEN(carderwheel_write_template(&at.writer, 0, 0), 34);
-    SAME(at.buffer[0] << 8 | at.buffer[1], 65535);
-    SAME(carderwheel_write_finish(&at.writer, &at.size), 0);
-    SAME(at.size, 2 + 8 * 65535);
-    SAME(changed(at.size, sizeof at.buffer), 0);
-    begun(sizeof at.buffer);
-    SAME(carderwheel_write_template(&at.writer, 0, 0), 0);
-    for (i = 0; i < 65535; i++) SAME(carderwheel_write_null(&at.writer), 0);
-    UNWRITTEN(carderwheel_write_null(&at.writer), 34);
-    SAME(at.buffer[6] << 8 | at.buffer[7], 65535);
-    SAME(at.writer.state.size, 10 + 65535);
-    SAME(changed(10 + 65535, sizeof at.buffer), 0);
+    begun(sizeof page.buffer);
+    for (i = 0; i < 65535; i++) SAME(carderwheel_write_template(&page.writer, 0, 0), 0);
+    UNWRITTEN(carderwheel_write_template(&page.writer, 0, 0), 34);
+    SAME(page.buffer[0] << 8 | page.buffer[1], 65535);
+    SAME(carderwheel_write_finish(&page.writer, &page.size), 0);
+    SAME(page.size, 2 + 8 * 65535);
+    SAME(changed(page.size, sizeof page.buffer), 0);
+    begun(sizeof page.buffer);
+    SAME(carderwheel_write_template(&page.writer, 0, 0), 0);
+    for (i = 0; i < 65535; i++) SAME(carderwheel_write_null(&page.writer), 0);
+    UNWRITTEN(carderwheel_write_null(&page.writer), 34);
+    SAME(page.buffer[6] << 8 | page.buffer[7], 65535);
+    SAME(page.writer.state.size, 10 + 65535);
+    SAME(changed(10 + 65535, sizeof page.buffer), 0);
 }
 
 /* States that no call left: whatever a call answers, it stays in its buffer. */
@@ -381,12 +386,12 @@ static void any_state(void) {
     enum { COUNT = sizeof numbers / sizeof *numbers };
     const carderwheel_writer_state zeros = {0, 0, 0, 0, 0};
     unsigned i, call;
-    memset(at.buffer, 0xA5, sizeof at.buffer);
-    at.writer.buffer = at.buffer + 32;
-    at.writer.capacity = 32;
+    memset(page.buffer, 0xA5, sizeof page.buffer);
+    page.writer.buffer = page.buffer + 32;
+    page.writer.capacity = 32;
     for (i = 0; i < 5 * COUNT * COUNT * COUNT; i++) {
         for (call = 0; call < 10; call++) {
-            carderwheel_writer *w = &at.writer;
+            carderwheel_writer *w = &page.writer;
             w->state = zeros;
             w->state.stage = i % 5;
             w->state.size = numbers[i / 5 % COUNT];
@@ -401,11 +406,11 @@ static void any_state(void) {
             if (call == 6) carderwheel_write_undefined(w);
             if (call == 7) carderwheel_write_function(w, 1);
             if (call == 8) carderwheel_write_code(w, TEXT("ice"));
-            if (call == 9) carderwheel_write_finish(w, &at.size);
+            if (call == 9) carderwheel_write_finish(w, &page.size);
         }
     }
     SAME(changed(0, 32), 0);
-    SAME(changed(64, sizeof at.buffer), 0);
+    SAME(changed(64, sizeof page.buffer), 0);
 }
 
 int main(void) {

@@ -164,7 +164,8 @@ fn writes(engine: &mut Engine) -> Result<(), Refusal> {
     unwritten!(writer, writer.template(65535, 65535), 31);
     unwritten!(writer, writer.template(65536, 0), 34);
     unwritten!(writer, writer.template(0, 65536), 34);
-    unwritten!(writer, writer.template(0, u64::MAX), 34);
+    unwritten!(writer, writer.template(1 << 32, 0), 34);
+    unwritten!(writer, writer.template(0, 1 << 32), 34);
     writer.finish()?;
     for (constant, bytes) in CONSTANTS {
         let mut writer = Writer::new(&mut buffer[..10 + bytes - 1]);
@@ -182,7 +183,7 @@ fn writes(engine: &mut Engine) -> Result<(), Refusal> {
     unwritten!(writer, writer.constant(Constant::Text(&[0; 65535])), 31);
     unwritten!(writer, writer.constant(Constant::Text(&[0; 65536])), 34);
     unwritten!(writer, writer.constant(Constant::Function(65536)), 34);
-    unwritten!(writer, writer.constant(Constant::Function(u64::MAX)), 34);
+    unwritten!(writer, writer.constant(Constant::Function(1 << 32)), 34);
     assert_eq!(writer.written(), [0, 1, 0, 0, 0, 0, 0, 0, 0, 0]);
 
     // counts and lengths up to 65,535, and no further

@@ -1,7 +1,7 @@
 //! Two of the examples, by writer calls; examples/sample.lst and examples/nested.lst say what the code does.
-use rows::OTHER;
-use rows::Tally;
-use rows::met;
+use crate::rows::OTHER;
+use crate::rows::Tally;
+use crate::rows::met;
 
 pub fn sample(t: Tally, b: &mut [u8]) -> Tally {
     let t = met(t, 0, writer::begin(b));
@@ -32,7 +32,7 @@ fn chunk(t: Tally, b: &mut [u8]) -> Tally {
     let t = met(t, 0, writer::number(t.writer, b, 12 * 0x1_0000_0000));
     let t = met(t, 0, writer::number(t.writer, b, 100 * 0x1_0000_0000));
     let t = met(t, 0, writer::number(t.writer, b, 0));
-    let code = [
+    let bytes = [
         0x34,
         0,
         0,
@@ -78,13 +78,13 @@ fn chunk(t: Tally, b: &mut [u8]) -> Tally {
         2,
         0xff, // correct(100, 0)
     ];
-    met(t, 0, writer::code(t.writer, b, &code))
+    met(t, 0, writer::code(t.writer, b, &bytes))
 }
 
 fn correct(t: Tally, b: &mut [u8]) -> Tally {
     let t = met(t, 0, writer::template(t.writer, b, 2, 3));
     let t = met(t, 0, writer::function(t.writer, b, 2));
-    let code = [
+    let bytes = [
         0x34,
         0,
         0,
@@ -105,7 +105,7 @@ fn correct(t: Tally, b: &mut [u8]) -> Tally {
         0x0a,
         0x33,
     ];
-    met(t, 0, writer::code(t.writer, b, &code))
+    met(t, 0, writer::code(t.writer, b, &bytes))
 }
 
 fn firn(t: Tally, b: &mut [u8]) -> Tally {

@@ -1,12 +1,12 @@
 //! The image writer at work: writes two of the examples call by call, compares their bytes with the stored images, which stand one behind the other on standard
 //! input, loads and runs them; then meets every refusal at its edge.
+use crate::rows::OTHER;
+use crate::rows::Tally;
 use heap::HEAP_WORDS;
 use image::CODE_BYTES;
 use image::IMAGES;
 use libc::STDOUT_FILENO;
 use report::say;
-use rows::OTHER;
-use rows::Tally;
 use stacks::STACK_WORDS;
 use texts::OUTPUT_LIMIT;
 use texts::TEXT_LIMIT;
@@ -77,7 +77,7 @@ fn write_examples(t: Tally, stored: &[u8]) -> Tally {
 fn main() {
     let mut input: [u8; 1024] = [0; 1024];
     let n = io::read_full(0, &mut input);
-    let t = write_examples(rows::none(), &input[..n]);
+    let t = write_examples(rows::unbegun(0, 0), &input[..n]);
     let t = rows::all(t);
     say(b"calls: ", t.calls);
     say(b" compared, ", t.differ);

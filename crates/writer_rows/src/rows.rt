@@ -17,7 +17,8 @@ pub struct Tally {
     pub differ: u64,
 }
 
-pub fn none() -> Tally {
+// A writer before a begin.
+pub fn unbegun(calls: u64, differ: u64) -> Tally {
     Tally {
         writer: Writer {
             stage: 0,
@@ -26,8 +27,8 @@ pub fn none() -> Tally {
             at: 0,
             constants: 0,
         },
-        calls: 0,
-        differ: 0,
+        calls,
+        differ,
     }
 }
 
@@ -75,13 +76,7 @@ fn refuses_items(t: Tally, b: &mut [u8]) -> Tally {
 
 // Before a begin, with no template, behind a template's code of no bytes, after the finish: where there is room, and where there is none.
 fn order(t: Tally, b: &mut [u8]) -> Tally {
-    let start = none();
-    let t = Tally {
-        writer: start.writer,
-        calls: t.calls,
-        differ: t.differ,
-    };
-    let t = refuses_each(t, b);
+    let t = refuses_each(unbegun(t.calls, t.differ), b);
     let t = met(t, 0, writer::begin(b));
     let t = refuses_items(t, b);
     let t = met(t, 0, writer::template(t.writer, b, 0, 0));
@@ -116,7 +111,7 @@ fn first_bytes(t: Tally) -> Tally {
 }
 
 // A template is open and no byte is left: a constant and code need their own, and code of no bytes needs none.
-fn full(t: Tally, long: &[u8; 65536]) -> Tally {
+fn full(t: Tally, long: &[u8]) -> Tally {
     let mut b: [u8; 10] = [OTHER; 10];
     let t = opened(t, &mut b);
     let t = met(t, 31, writer::number(t.writer, &mut b, 1));
@@ -174,7 +169,7 @@ fn exact(t: Tally) -> Tally {
 }
 
 // The counts and lengths that one call gives.
-fn lengths(t: Tally, b: &mut [u8], long: &[u8; 65536]) -> Tally {
+fn lengths(t: Tally, b: &mut [u8], most: &[u8], long: &[u8]) -> Tally {
     let t = met(t, 0, writer::begin(b));
     let t = met(t, 34, writer::template(t.writer, b, 65536, 0));
     let t = met(t, 34, writer::template(t.writer, b, 0, 65536));
@@ -182,32 +177,38 @@ fn lengths(t: Tally, b: &mut [u8], long: &[u8; 65536]) -> Tally {
     let t = met(t, 34, writer::function(t.writer, b, 65536));
     let t = met(t, 0, writer::function(t.writer, b, 65535));
     let t = met(t, 34, writer::text(t.writer, b, long));
-    let t = met(t, 0, writer::text(t.writer, b, &long[..65535]));
+    let t = met(t, 0, writer::text(t.writer, b, most));
     let t = met(t, 34, writer::code(t.writer, b, long));
-    let t = met(t, 0, writer::code(t.writer, b, &long[..65535]));
+    let t = met(t, 0, writer::code(t.writer, b, most));
     met(t, 0, writer::finish(t.writer))
 }
 
-// 65,535 constants, and one more; then the same of templates.
-fn many_constants(t: Tally, b: &mut [u8]) -> Tally {
-    let mut t = opened(t, b);
+// As many constants, and templates, as their counts can tell.
+fn most_constants(t: Tally, b: &mut [u8]) -> Tally {
+    let mut t = t;
     let mut i: usize = 0;
     while i < 65535 {
         t = met(t, 0, writer::null(t.writer, b));
         i += 1;
     }
-    let t = met(t, 34, writer::null(t.writer, b));
-    let t = met(t, 0, writer::code(t.writer, b, b""));
-    met(t, 0, writer::finish(t.writer))
+    t
 }
 
-fn many_templates(t: Tally, b: &mut [u8]) -> Tally {
-    let mut t = met(t, 0, writer::begin(b));
+fn most_templates(t: Tally, b: &mut [u8]) -> Tally {
+    let mut t = t;
     let mut i: usize = 0;
     while i < 65535 {
         t = met(t, 0, writer::template(t.writer, b, 0, 0));
         i += 1;
     }
+    t
+}
+
+fn counts(t: Tally, b: &mut [u8]) -> Tally {
+    let t = most_constants(opened(t, b), b);
+    let t = met(t, 34, writer::null(t.writer, b));
+    let t = met(t, 0, writer::code(t.writer, b, b"a"));
+    let t = most_templates(met(t, 0, writer::begin(b)), b);
     let t = met(t, 34, writer::template(t.writer, b, 0, 0));
     met(t, 0, writer::finish(t.writer))
 }
@@ -215,13 +216,13 @@ fn many_templates(t: Tally, b: &mut [u8]) -> Tally {
 pub fn all(t: Tally) -> Tally {
     let mut b: [u8; MOST] = [OTHER; MOST];
     let mut ten: [u8; 10] = [OTHER; 10];
+    let most: [u8; 65535] = [0; 65535];
     let long: [u8; 65536] = [0; 65536];
     let t = order(t, &mut b);
     let t = order(t, &mut ten);
     let t = first_bytes(t);
     let t = full(t, &long);
     let t = exact(t);
-    let t = lengths(t, &mut b, &long);
-    let t = many_constants(t, &mut b);
-    many_templates(t, &mut b)
+    let t = lengths(t, &mut b, &most, &long);
+    counts(t, &mut b)
 }

@@ -1,0 +1,84 @@
+use borrow.Author.Needs.{needs}
+use mathlib.Core.Path.{_∙_}
+use Rattle.writer_rows.proofs.rows.counts.Statement.{statement}
+use Rattle.writer_rows.proofs.rows.counts.Tie as tie
+use Rattle.writer_rows.proofs.rows.counts.Reads as reads
+use Rattle.writer_rows.proofs.rows.counts.Lts as lts
+use Rattle.writer.proofs.begin.Reads as begin-reads
+use Rattle.writer.proofs.code.Reads as code-reads
+use Rattle.writer.proofs.finish.Reads as finish-reads
+use Rattle.writer.proofs.null.Reads as null-reads
+use Rattle.writer.proofs.template.Reads as template-reads
+use Rattle.writer_rows.proofs.rows.met.Reads as met-reads
+use Rattle.writer_rows.proofs.rows.most_constants.Reads as most-constants-reads
+use Rattle.writer_rows.proofs.rows.most_templates.Reads as most-templates-reads
+use Rattle.writer_rows.proofs.rows.opened.Reads as opened-reads
+
+opened-requires : tie.Need-opened-requires
+opened-requires c κs = search needs
+
+most-constants-requires : tie.Need-most-constants-requires
+most-constants-requires c κs = search needs
+
+null-requires : tie.Need-null-requires
+null-requires c κs = search needs
+
+met-requires : tie.Need-met-requires
+met-requires c κs = search needs
+
+slice-aggregate-code : tie.Need-slice-aggregate-code
+slice-aggregate-code c = search needs
+
+code-requires : tie.Need-code-requires
+code-requires c κs = search needs
+
+met-requires-2 : tie.Need-met-requires-2
+met-requires-2 c κs = search needs
+
+begin-requires : tie.Need-begin-requires
+begin-requires c κs = search needs
+
+met-requires-3 : tie.Need-met-requires-3
+met-requires-3 c κs = search needs
+
+most-templates-requires : tie.Need-most-templates-requires
+most-templates-requires c κs = search needs
+
+template-requires : tie.Need-template-requires
+template-requires c κs = search needs
+
+met-requires-4 : tie.Need-met-requires-4
+met-requires-4 c κs = search needs
+
+finish-requires : tie.Need-finish-requires
+finish-requires c κs = search needs
+
+met-requires-5 : tie.Need-met-requires-5
+met-requires-5 c κs = search needs
+
+same-length : tie.Need-same-length
+same-length c = c .before .before .before .before .before .template .kept .1 .0 ∙ c .before .before .before .before .before .before .before .before .before .most-templates .kept .1 .0 ∙ c .before .before .before .before .before .before .before .before .before .before .before .before .before .before .begin .kept .0 ∙ c .before .before .before .before .before .before .before .before .before .before .before .before .before .before .before .before .before .before .before .code .kept .1 .0 ∙ c .before .before .before .before .before .before .before .before .before .before .before .before .before .before .before .before .before .before .before .before .before .before .before .before .before .null .kept .1 .0 ∙ c .before .before .before .before .before .before .before .before .before .before .before .before .before .before .before .before .before .before .before .before .before .before .before .before .before .before .before .before .before .most-constants .kept .1 .0 ∙ c .before .before .before .before .before .before .before .before .before .before .before .before .before .before .before .before .before .before .before .before .before .before .before .before .before .before .before .before .before .before .before .before .before .opened .kept .1 .0
+
+returns : tie.Need-returns
+returns c = search needs
+
+pub counts-spec : {M : Type 1} → statement M
+counts-spec =
+    tie.close
+    (tie.spec
+    opened-requires
+    most-constants-requires
+    null-requires
+    met-requires
+    slice-aggregate-code
+    code-requires
+    met-requires-2
+    begin-requires
+    met-requires-3
+    most-templates-requires
+    template-requires
+    met-requires-4
+    finish-requires
+    met-requires-5
+    same-length
+    returns)
