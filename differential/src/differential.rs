@@ -21,6 +21,8 @@ mod programs;
 mod reference;
 #[path = "shrinking.rs"]
 mod shrinking;
+#[path = "writes.rs"]
+mod writes;
 #[path = "writing.rs"]
 mod writing;
 
@@ -196,7 +198,7 @@ pub fn main() {
     for (what, list) in writing::asked(&words) {
         lists += 1;
         if let Some(folder) = words.text("inputs") {
-            write_input(folder, "writer", lists, writing::input(&list));
+            write_input(folder, "writer", lists, writes::input(&list));
         }
         if let Err((at, why)) = writing::check(&mut library, &list, &mut written) {
             different += 1;

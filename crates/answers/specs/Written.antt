@@ -14,9 +14,12 @@ use Rattle.writer.specs.declared.Written.the-variants.{Wrote, Refused}
 use Rattle.writer.specs.View.{sessionOf, writerOf, refusal, answer, Does}
 use Rattle.answers.specs.declared.WriteTold.{WriteTold}
 
+abbrev pub writeTold : ℕ → Writer → WriteTold
+writeTold n w = record { number = n; writer = w }
+
 abbrev pub toldWrite : Writer → Written → WriteTold
-toldWrite w (Wrote y) = record { number = 0; writer = y }
-toldWrite w (Refused n) = record { number = n; writer = w }
+toldWrite w (Wrote y) = writeTold 0 y
+toldWrite w (Refused n) = writeTold n w
 
 abbrev writtenAs : ℕ → Writer → Written
 writtenAs zero y = Wrote y

@@ -20,7 +20,7 @@ ghost use Rattle.value.specs.Words.{valueOf};
 ghost use Rattle.run.specs.Runs.{resultOf};
 ghost use Rattle.host.specs.Calls.{answerOfNumbered, countsOfNumbered, answerOfChanged, countsOfChanged, answerOfRead, answerOfRun, countsOfRun};
 ghost use Rattle.answers.specs.Flat.{answer, told, toldValue, toldRun, flatText, flatDrain, errorOpcode, opcodeOf, valueBy};
-ghost use Rattle.answers.specs.Written.{toldWrite};
+ghost use Rattle.answers.specs.Written.{writeTold, toldWrite};
 
 // A call's number, 0 where it was accepted; an image's number or the bytes written; and what is in use then.
 #[repr(C)]
@@ -196,13 +196,13 @@ pub fn written(w: Writer, x: Written) -> WriteTold
     ensures { λ r. ⌜ r ≡ toldWrite w x ⌝ }
 {
     match x {
-        Written::Wrote(y) => WriteTold {
-            number: 0,
-            writer: y,
-        },
-        Written::Refused(n) => WriteTold {
-            number: n,
-            writer: w,
-        },
+        Written::Wrote(y) => write_told(0, y),
+        Written::Refused(n) => write_told(n, w),
     }
+}
+
+fn write_told(number: u64, writer: Writer) -> WriteTold
+    ensures { λ r. ⌜ r ≡ writeTold number writer ⌝ }
+{
+    WriteTold { number, writer }
 }

@@ -25,13 +25,8 @@ pub fn nested(t: Tally, b: &mut [u8]) -> Tally {
 
 fn chunk(t: Tally, b: &mut [u8]) -> Tally {
     let t = met(t, 0, writer::template(t.writer, b, 0, 0));
-    let t = met(t, 0, writer::function(t.writer, b, 1));
-    let t = met(t, 0, writer::text(t.writer, b, b"correct"));
-    let t = met(t, 0, writer::text(t.writer, b, b"console"));
-    let t = met(t, 0, writer::number(t.writer, b, 840 * 0x1_0000_0000));
-    let t = met(t, 0, writer::number(t.writer, b, 12 * 0x1_0000_0000));
-    let t = met(t, 0, writer::number(t.writer, b, 100 * 0x1_0000_0000));
-    let t = met(t, 0, writer::number(t.writer, b, 0));
+    let t = chunk_names(t, b);
+    let t = chunk_depths(t, b);
     let bytes = [
         0x34,
         0,
@@ -79,6 +74,19 @@ fn chunk(t: Tally, b: &mut [u8]) -> Tally {
         0xff, // correct(100, 0)
     ];
     met(t, 0, writer::code(t.writer, b, &bytes))
+}
+
+fn chunk_names(t: Tally, b: &mut [u8]) -> Tally {
+    let t = met(t, 0, writer::function(t.writer, b, 1));
+    let t = met(t, 0, writer::text(t.writer, b, b"correct"));
+    met(t, 0, writer::text(t.writer, b, b"console"))
+}
+
+fn chunk_depths(t: Tally, b: &mut [u8]) -> Tally {
+    let t = met(t, 0, writer::number(t.writer, b, 840 * 0x1_0000_0000));
+    let t = met(t, 0, writer::number(t.writer, b, 12 * 0x1_0000_0000));
+    let t = met(t, 0, writer::number(t.writer, b, 100 * 0x1_0000_0000));
+    met(t, 0, writer::number(t.writer, b, 0))
 }
 
 fn correct(t: Tally, b: &mut [u8]) -> Tally {

@@ -64,29 +64,35 @@ fn refuses_each(t: Tally, b: &mut [u8]) -> Tally {
 }
 
 fn refuses_items(t: Tally, b: &mut [u8]) -> Tally {
-    let t = met(t, 34, writer::number(t.writer, b, 1));
-    let t = met(t, 34, writer::text(t.writer, b, b"a"));
-    let t = met(t, 34, writer::boolean(t.writer, b, true));
-    let t = met(t, 34, writer::null(t.writer, b));
-    let t = met(t, 34, writer::undefined(t.writer, b));
+    let t = refuses_values(t, b);
     let t = met(t, 34, writer::function(t.writer, b, 1));
     let t = met(t, 34, writer::code(t.writer, b, b"a"));
     met(t, 34, writer::code(t.writer, b, b""))
 }
 
-// Before a begin, with no template, behind a template's code of no bytes, after the finish: where there is room, and where there is none.
+fn refuses_values(t: Tally, b: &mut [u8]) -> Tally {
+    let t = met(t, 34, writer::number(t.writer, b, 1));
+    let t = met(t, 34, writer::text(t.writer, b, b"a"));
+    let t = met(t, 34, writer::boolean(t.writer, b, true));
+    let t = met(t, 34, writer::null(t.writer, b));
+    met(t, 34, writer::undefined(t.writer, b))
+}
+
+// Out of order: before a begin, with no template, behind a template's code of no bytes, after the finish.
 fn order(t: Tally, b: &mut [u8]) -> Tally {
     let t = refuses_each(unbegun(t.calls, t.differ), b);
-    let t = met(t, 0, writer::begin(b));
-    let t = refuses_items(t, b);
-    let t = met(t, 0, writer::template(t.writer, b, 0, 0));
-    let t = met(t, 0, writer::code(t.writer, b, b""));
-    let t = refuses_items(t, b);
-    let t = met(t, 0, writer::finish(t.writer));
-    let t = refuses_each(t, b);
+    let t = refuses_items(met(t, 0, writer::begin(b)), b);
+    let t = behind_code(t, b);
+    let t = refuses_each(met(t, 0, writer::finish(t.writer)), b);
     // a begin starts anew, and an image of no template is finished
     let t = met(t, 0, writer::begin(b));
     met(t, 0, writer::finish(t.writer))
+}
+
+fn behind_code(t: Tally, b: &mut [u8]) -> Tally {
+    let t = met(t, 0, writer::template(t.writer, b, 0, 0));
+    let t = met(t, 0, writer::code(t.writer, b, b""));
+    refuses_items(t, b)
 }
 
 fn opened(t: Tally, b: &mut [u8]) -> Tally {
@@ -114,17 +120,25 @@ fn first_bytes(t: Tally) -> Tally {
 fn full(t: Tally, long: &[u8]) -> Tally {
     let mut b: [u8; 10] = [OTHER; 10];
     let t = opened(t, &mut b);
-    let t = met(t, 31, writer::number(t.writer, &mut b, 1));
-    let t = met(t, 31, writer::text(t.writer, &mut b, b""));
-    let t = met(t, 34, writer::text(t.writer, &mut b, long));
-    let t = met(t, 31, writer::boolean(t.writer, &mut b, false));
-    let t = met(t, 31, writer::null(t.writer, &mut b));
-    let t = met(t, 31, writer::undefined(t.writer, &mut b));
-    let t = met(t, 31, writer::function(t.writer, &mut b, 65535));
-    let t = met(t, 34, writer::function(t.writer, &mut b, 65536));
+    let t = full_of_values(t, &mut b);
+    let t = full_of_texts(t, &mut b, long);
     let t = met(t, 31, writer::code(t.writer, &mut b, b"a"));
     let t = met(t, 34, writer::code(t.writer, &mut b, long));
     met(t, 0, writer::code(t.writer, &mut b, b""))
+}
+
+fn full_of_values(t: Tally, b: &mut [u8]) -> Tally {
+    let t = met(t, 31, writer::number(t.writer, b, 1));
+    let t = met(t, 31, writer::boolean(t.writer, b, false));
+    let t = met(t, 31, writer::null(t.writer, b));
+    met(t, 31, writer::undefined(t.writer, b))
+}
+
+fn full_of_texts(t: Tally, b: &mut [u8], long: &[u8]) -> Tally {
+    let t = met(t, 31, writer::text(t.writer, b, b""));
+    let t = met(t, 34, writer::text(t.writer, b, long));
+    let t = met(t, 31, writer::function(t.writer, b, 65535));
+    met(t, 34, writer::function(t.writer, b, 65536))
 }
 
 // A byte too few for each kind of constant and for code, then just enough.
@@ -170,17 +184,20 @@ fn exact(t: Tally) -> Tally {
 
 // The counts and lengths that one call gives.
 fn lengths(t: Tally, b: &mut [u8], most: &[u8], long: &[u8]) -> Tally {
-    let t = met(t, 0, writer::begin(b));
-    let t = met(t, 34, writer::template(t.writer, b, 65536, 0));
-    let t = met(t, 34, writer::template(t.writer, b, 0, 65536));
-    let t = met(t, 0, writer::template(t.writer, b, 65535, 65535));
-    let t = met(t, 34, writer::function(t.writer, b, 65536));
-    let t = met(t, 0, writer::function(t.writer, b, 65535));
+    let t = numbers(met(t, 0, writer::begin(b)), b);
     let t = met(t, 34, writer::text(t.writer, b, long));
     let t = met(t, 0, writer::text(t.writer, b, most));
     let t = met(t, 34, writer::code(t.writer, b, long));
     let t = met(t, 0, writer::code(t.writer, b, most));
     met(t, 0, writer::finish(t.writer))
+}
+
+fn numbers(t: Tally, b: &mut [u8]) -> Tally {
+    let t = met(t, 34, writer::template(t.writer, b, 65536, 0));
+    let t = met(t, 34, writer::template(t.writer, b, 0, 65536));
+    let t = met(t, 0, writer::template(t.writer, b, 65535, 65535));
+    let t = met(t, 34, writer::function(t.writer, b, 65536));
+    met(t, 0, writer::function(t.writer, b, 65535))
 }
 
 // As many constants, and templates, as their counts can tell.

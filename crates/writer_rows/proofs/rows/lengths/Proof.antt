@@ -7,10 +7,9 @@ use Rattle.writer_rows.proofs.rows.lengths.Lts as lts
 use Rattle.writer.proofs.begin.Reads as begin-reads
 use Rattle.writer.proofs.code.Reads as code-reads
 use Rattle.writer.proofs.finish.Reads as finish-reads
-use Rattle.writer.proofs.function.Reads as function-reads
-use Rattle.writer.proofs.template.Reads as template-reads
 use Rattle.writer.proofs.text.Reads as text-reads
 use Rattle.writer_rows.proofs.rows.met.Reads as met-reads
+use Rattle.writer_rows.proofs.rows.numbers.Reads as numbers-reads
 
 begin-requires : tie.Need-begin-requires
 begin-requires c κs = search needs
@@ -18,68 +17,41 @@ begin-requires c κs = search needs
 met-requires : tie.Need-met-requires
 met-requires c κs = search needs
 
-template-requires : tie.Need-template-requires
-template-requires c κs = search needs
-
-met-requires-2 : tie.Need-met-requires-2
-met-requires-2 c κs = search needs
-
-template-requires-2 : tie.Need-template-requires-2
-template-requires-2 c κs = search needs
-
-met-requires-3 : tie.Need-met-requires-3
-met-requires-3 c κs = search needs
-
-template-requires-3 : tie.Need-template-requires-3
-template-requires-3 c κs = search needs
-
-met-requires-4 : tie.Need-met-requires-4
-met-requires-4 c κs = search needs
-
-function-requires : tie.Need-function-requires
-function-requires c κs = search needs
-
-met-requires-5 : tie.Need-met-requires-5
-met-requires-5 c κs = search needs
-
-function-requires-2 : tie.Need-function-requires-2
-function-requires-2 c κs = search needs
-
-met-requires-6 : tie.Need-met-requires-6
-met-requires-6 c κs = search needs
+numbers-requires : tie.Need-numbers-requires
+numbers-requires c κs = search needs
 
 text-requires : tie.Need-text-requires
 text-requires c κs = search needs
 
-met-requires-7 : tie.Need-met-requires-7
-met-requires-7 c κs = search needs
+met-requires-2 : tie.Need-met-requires-2
+met-requires-2 c κs = search needs
 
 text-requires-2 : tie.Need-text-requires-2
 text-requires-2 c κs = search needs
 
-met-requires-8 : tie.Need-met-requires-8
-met-requires-8 c κs = search needs
+met-requires-3 : tie.Need-met-requires-3
+met-requires-3 c κs = search needs
 
 code-requires : tie.Need-code-requires
 code-requires c κs = search needs
 
-met-requires-9 : tie.Need-met-requires-9
-met-requires-9 c κs = search needs
+met-requires-4 : tie.Need-met-requires-4
+met-requires-4 c κs = search needs
 
 code-requires-2 : tie.Need-code-requires-2
 code-requires-2 c κs = search needs
 
-met-requires-10 : tie.Need-met-requires-10
-met-requires-10 c κs = search needs
+met-requires-5 : tie.Need-met-requires-5
+met-requires-5 c κs = search needs
 
 finish-requires : tie.Need-finish-requires
 finish-requires c κs = search needs
 
-met-requires-11 : tie.Need-met-requires-11
-met-requires-11 c κs = search needs
+met-requires-6 : tie.Need-met-requires-6
+met-requires-6 c κs = search needs
 
 same-length : tie.Need-same-length
-same-length c = c .before .before .before .before .before .code2 .kept .1 .0 ∙ c .before .before .before .before .before .before .before .before .before .before .code .kept .1 .0 ∙ c .before .before .before .before .before .before .before .before .before .before .before .before .before .before .before .text2 .kept .1 .0 ∙ c .before .before .before .before .before .before .before .before .before .before .before .before .before .before .before .before .before .before .before .before .text .kept .1 .0 ∙ c .before .before .before .before .before .before .before .before .before .before .before .before .before .before .before .before .before .before .before .before .before .before .before .before .before .function2 .kept .1 .0 ∙ c .before .before .before .before .before .before .before .before .before .before .before .before .before .before .before .before .before .before .before .before .before .before .before .before .before .before .before .before .before .before .function .kept .1 .0 ∙ c .before .before .before .before .before .before .before .before .before .before .before .before .before .before .before .before .before .before .before .before .before .before .before .before .before .before .before .before .before .before .before .before .before .before .before .template3 .kept .1 .0 ∙ c .before .before .before .before .before .before .before .before .before .before .before .before .before .before .before .before .before .before .before .before .before .before .before .before .before .before .before .before .before .before .before .before .before .before .before .before .before .before .before .before .template2 .kept .1 .0 ∙ c .before .before .before .before .before .before .before .before .before .before .before .before .before .before .before .before .before .before .before .before .before .before .before .before .before .before .before .before .before .before .before .before .before .before .before .before .before .before .before .before .before .before .before .before .before .template .kept .1 .0 ∙ c .before .before .before .before .before .before .before .before .before .before .before .before .before .before .before .before .before .before .before .before .before .before .before .before .before .before .before .before .before .before .before .before .before .before .before .before .before .before .before .before .before .before .before .before .before .before .before .before .before .before .begin .kept .0
+same-length c = c .before .before .before .before .before .code2 .kept .1 .0 ∙ c .before .before .before .before .before .before .before .before .before .before .code .kept .1 .0 ∙ c .before .before .before .before .before .before .before .before .before .before .before .before .before .before .before .text2 .kept .1 .0 ∙ c .before .before .before .before .before .before .before .before .before .before .before .before .before .before .before .before .before .before .before .before .text .kept .1 .0 ∙ c .before .before .before .before .before .before .before .before .before .before .before .before .before .before .before .before .before .before .before .before .before .before .before .before .numbers .kept .1 .0 ∙ c .before .before .before .before .before .before .before .before .before .before .before .before .before .before .before .before .before .before .before .before .before .before .before .before .before .before .before .before .before .begin .kept .0
 
 returns : tie.Need-returns
 returns c = search needs
@@ -90,25 +62,16 @@ lengths-spec =
     (tie.spec
     begin-requires
     met-requires
-    template-requires
-    met-requires-2
-    template-requires-2
-    met-requires-3
-    template-requires-3
-    met-requires-4
-    function-requires
-    met-requires-5
-    function-requires-2
-    met-requires-6
+    numbers-requires
     text-requires
-    met-requires-7
+    met-requires-2
     text-requires-2
-    met-requires-8
+    met-requires-3
     code-requires
-    met-requires-9
+    met-requires-4
     code-requires-2
-    met-requires-10
+    met-requires-5
     finish-requires
-    met-requires-11
+    met-requires-6
     same-length
     returns)

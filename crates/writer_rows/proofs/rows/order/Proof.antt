@@ -5,9 +5,8 @@ use Rattle.writer_rows.proofs.rows.order.Tie as tie
 use Rattle.writer_rows.proofs.rows.order.Reads as reads
 use Rattle.writer_rows.proofs.rows.order.Lts as lts
 use Rattle.writer.proofs.begin.Reads as begin-reads
-use Rattle.writer.proofs.code.Reads as code-reads
 use Rattle.writer.proofs.finish.Reads as finish-reads
-use Rattle.writer.proofs.template.Reads as template-reads
+use Rattle.writer_rows.proofs.rows.behind_code.Reads as behind-code-reads
 use Rattle.writer_rows.proofs.rows.met.Reads as met-reads
 use Rattle.writer_rows.proofs.rows.refuses_each.Reads as refuses-each-reads
 use Rattle.writer_rows.proofs.rows.refuses_items.Reads as refuses-items-reads
@@ -28,29 +27,14 @@ met-requires c κs = search needs
 refuses-items-requires : tie.Need-refuses-items-requires
 refuses-items-requires c κs = search needs
 
-template-requires : tie.Need-template-requires
-template-requires c κs = search needs
-
-met-requires-2 : tie.Need-met-requires-2
-met-requires-2 c κs = search needs
-
-slice-aggregate-code : tie.Need-slice-aggregate-code
-slice-aggregate-code c = search needs
-
-code-requires : tie.Need-code-requires
-code-requires c κs = search needs
-
-met-requires-3 : tie.Need-met-requires-3
-met-requires-3 c κs = search needs
-
-refuses-items-requires-2 : tie.Need-refuses-items-requires-2
-refuses-items-requires-2 c κs = search needs
+behind-code-requires : tie.Need-behind-code-requires
+behind-code-requires c κs = search needs
 
 finish-requires : tie.Need-finish-requires
 finish-requires c κs = search needs
 
-met-requires-4 : tie.Need-met-requires-4
-met-requires-4 c κs = search needs
+met-requires-2 : tie.Need-met-requires-2
+met-requires-2 c κs = search needs
 
 refuses-each-requires-2 : tie.Need-refuses-each-requires-2
 refuses-each-requires-2 c κs = search needs
@@ -58,17 +42,17 @@ refuses-each-requires-2 c κs = search needs
 begin-requires-2 : tie.Need-begin-requires-2
 begin-requires-2 c κs = search needs
 
-met-requires-5 : tie.Need-met-requires-5
-met-requires-5 c κs = search needs
+met-requires-3 : tie.Need-met-requires-3
+met-requires-3 c κs = search needs
 
 finish-requires-2 : tie.Need-finish-requires-2
 finish-requires-2 c κs = search needs
 
-met-requires-6 : tie.Need-met-requires-6
-met-requires-6 c κs = search needs
+met-requires-4 : tie.Need-met-requires-4
+met-requires-4 c κs = search needs
 
 same-length : tie.Need-same-length
-same-length c = c .before .before .before .before .before .begin2 .kept .0 ∙ c .before .before .before .before .before .before .before .before .before .refuses-each2 .kept .1 .0 ∙ c .before .before .before .before .before .before .before .before .before .before .before .before .before .before .before .refuses-items2 .kept .1 .0 ∙ c .before .before .before .before .before .before .before .before .before .before .before .before .before .before .before .before .before .before .before .before .code .kept .1 .0 ∙ c .before .before .before .before .before .before .before .before .before .before .before .before .before .before .before .before .before .before .before .before .before .before .before .before .before .before .template .kept .1 .0 ∙ c .before .before .before .before .before .before .before .before .before .before .before .before .before .before .before .before .before .before .before .before .before .before .before .before .before .before .before .before .before .before .refuses-items .kept .1 .0 ∙ c .before .before .before .before .before .before .before .before .before .before .before .before .before .before .before .before .before .before .before .before .before .before .before .before .before .before .before .before .before .before .before .before .before .before .before .begin .kept .0 ∙ c .before .before .before .before .before .before .before .before .before .before .before .before .before .before .before .before .before .before .before .before .before .before .before .before .before .before .before .before .before .before .before .before .before .before .before .before .before .before .before .refuses-each .kept .1 .0
+same-length c = c .before .before .before .before .before .begin2 .kept .0 ∙ c .before .before .before .before .before .before .before .before .before .refuses-each2 .kept .1 .0 ∙ c .before .before .before .before .before .before .before .before .before .before .before .before .before .before .before .behind-code .kept .1 .0 ∙ c .before .before .before .before .before .before .before .before .before .before .before .before .before .before .before .before .before .before .before .refuses-items .kept .1 .0 ∙ c .before .before .before .before .before .before .before .before .before .before .before .before .before .before .before .before .before .before .before .before .before .before .before .before .begin .kept .0 ∙ c .before .before .before .before .before .before .before .before .before .before .before .before .before .before .before .before .before .before .before .before .before .before .before .before .before .before .before .before .refuses-each .kept .1 .0
 
 returns : tie.Need-returns
 returns c = search needs
@@ -82,18 +66,13 @@ order-spec =
     begin-requires
     met-requires
     refuses-items-requires
-    template-requires
-    met-requires-2
-    slice-aggregate-code
-    code-requires
-    met-requires-3
-    refuses-items-requires-2
+    behind-code-requires
     finish-requires
-    met-requires-4
+    met-requires-2
     refuses-each-requires-2
     begin-requires-2
-    met-requires-5
+    met-requires-3
     finish-requires-2
-    met-requires-6
+    met-requires-4
     same-length
     returns)

@@ -4,53 +4,19 @@ use Rattle.writer_rows.proofs.rows.refuses_items.Statement.{statement}
 use Rattle.writer_rows.proofs.rows.refuses_items.Tie as tie
 use Rattle.writer_rows.proofs.rows.refuses_items.Reads as reads
 use Rattle.writer_rows.proofs.rows.refuses_items.Lts as lts
-use Rattle.writer.proofs.boolean.Reads as boolean-reads
 use Rattle.writer.proofs.code.Reads as code-reads
 use Rattle.writer.proofs.function.Reads as function-reads
-use Rattle.writer.proofs.null.Reads as null-reads
-use Rattle.writer.proofs.number.Reads as number-reads
-use Rattle.writer.proofs.text.Reads as text-reads
-use Rattle.writer.proofs.undefined.Reads as undefined-reads
 use Rattle.writer_rows.proofs.rows.met.Reads as met-reads
+use Rattle.writer_rows.proofs.rows.refuses_values.Reads as refuses-values-reads
 
-number-requires : tie.Need-number-requires
-number-requires c κs = search needs
-
-met-requires : tie.Need-met-requires
-met-requires c κs = search needs
-
-slice-aggregate-text : tie.Need-slice-aggregate-text
-slice-aggregate-text c = search needs
-
-text-requires : tie.Need-text-requires
-text-requires c κs = search needs
-
-met-requires-2 : tie.Need-met-requires-2
-met-requires-2 c κs = search needs
-
-boolean-requires : tie.Need-boolean-requires
-boolean-requires c κs = search needs
-
-met-requires-3 : tie.Need-met-requires-3
-met-requires-3 c κs = search needs
-
-null-requires : tie.Need-null-requires
-null-requires c κs = search needs
-
-met-requires-4 : tie.Need-met-requires-4
-met-requires-4 c κs = search needs
-
-undefined-requires : tie.Need-undefined-requires
-undefined-requires c κs = search needs
-
-met-requires-5 : tie.Need-met-requires-5
-met-requires-5 c κs = search needs
+refuses-values-requires : tie.Need-refuses-values-requires
+refuses-values-requires c κs = search needs
 
 function-requires : tie.Need-function-requires
 function-requires c κs = search needs
 
-met-requires-6 : tie.Need-met-requires-6
-met-requires-6 c κs = search needs
+met-requires : tie.Need-met-requires
+met-requires c κs = search needs
 
 slice-aggregate-code : tie.Need-slice-aggregate-code
 slice-aggregate-code c = search needs
@@ -58,8 +24,8 @@ slice-aggregate-code c = search needs
 code-requires : tie.Need-code-requires
 code-requires c κs = search needs
 
-met-requires-7 : tie.Need-met-requires-7
-met-requires-7 c κs = search needs
+met-requires-2 : tie.Need-met-requires-2
+met-requires-2 c κs = search needs
 
 slice-aggregate-code-2 : tie.Need-slice-aggregate-code-2
 slice-aggregate-code-2 c = search needs
@@ -67,11 +33,11 @@ slice-aggregate-code-2 c = search needs
 code-requires-2 : tie.Need-code-requires-2
 code-requires-2 c κs = search needs
 
-met-requires-8 : tie.Need-met-requires-8
-met-requires-8 c κs = search needs
+met-requires-3 : tie.Need-met-requires-3
+met-requires-3 c κs = search needs
 
 same-length : tie.Need-same-length
-same-length c = c .before .before .before .code2 .kept .1 .0 ∙ c .before .before .before .before .before .before .before .before .before .code .kept .1 .0 ∙ c .before .before .before .before .before .before .before .before .before .before .before .before .before .before .before .function .kept .1 .0 ∙ c .before .before .before .before .before .before .before .before .before .before .before .before .before .before .before .before .before .before .before .before .undefined .kept .1 .0 ∙ c .before .before .before .before .before .before .before .before .before .before .before .before .before .before .before .before .before .before .before .before .before .before .before .before .before .null .kept .1 .0 ∙ c .before .before .before .before .before .before .before .before .before .before .before .before .before .before .before .before .before .before .before .before .before .before .before .before .before .before .before .before .before .before .boolean .kept .1 .0 ∙ c .before .before .before .before .before .before .before .before .before .before .before .before .before .before .before .before .before .before .before .before .before .before .before .before .before .before .before .before .before .before .before .before .before .before .before .text .kept .1 .0 ∙ c .before .before .before .before .before .before .before .before .before .before .before .before .before .before .before .before .before .before .before .before .before .before .before .before .before .before .before .before .before .before .before .before .before .before .before .before .before .before .before .before .before .number .kept .1 .0
+same-length c = c .before .before .before .code2 .kept .1 .0 ∙ c .before .before .before .before .before .before .before .before .before .code .kept .1 .0 ∙ c .before .before .before .before .before .before .before .before .before .before .before .before .before .before .before .function .kept .1 .0 ∙ c .before .before .before .before .before .before .before .before .before .before .before .before .before .before .before .before .before .before .before .refuses-values .kept .1 .0
 
 returns : tie.Need-returns
 returns c = search needs
@@ -80,24 +46,14 @@ pub refuses-items-spec : {M : Type 1} → statement M
 refuses-items-spec =
     tie.close
     (tie.spec
-    number-requires
-    met-requires
-    slice-aggregate-text
-    text-requires
-    met-requires-2
-    boolean-requires
-    met-requires-3
-    null-requires
-    met-requires-4
-    undefined-requires
-    met-requires-5
+    refuses-values-requires
     function-requires
-    met-requires-6
+    met-requires
     slice-aggregate-code
     code-requires
-    met-requires-7
+    met-requires-2
     slice-aggregate-code-2
     code-requires-2
-    met-requires-8
+    met-requires-3
     same-length
     returns)
