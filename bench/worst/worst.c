@@ -17,6 +17,7 @@ static uint8_t image[CARDERWHEEL_CODE_BYTES], buffer[CARDERWHEEL_TEXT_BYTES], lo
 static size_t image_size, written;
 static uint64_t loaded, function;
 static carderwheel_value long_text, read;
+static carderwheel_writer writer, opened;
 
 static double now(void) {
     struct timespec t;
@@ -90,6 +91,17 @@ static void full_output(void) {
     engine.counts.output = CARDERWHEEL_OUTPUT_BYTES; /* as printed lines leave it; what stands there is only copied */
 }
 
+/* The image writer, in a buffer of the code store's size: a template that is open; the same with a text that leaves room for a null. */
+static void open_template(void) {
+    need("begin", carderwheel_write_begin(&opened, image, sizeof image), 0);
+    need("template", carderwheel_write_template(&opened, 0, 0), 0);
+}
+
+static void nearly_full(void) {
+    open_template();
+    need("text", carderwheel_write_text(&opened, digits, sizeof image - 14), 0);
+}
+
 static uint64_t nothing_(void) { return 0; }
 static uint64_t clear_(void) { return carderwheel_clear(&engine); }
 static uint64_t load_(void) { return carderwheel_load(&engine, image, image_size, &loaded); }
@@ -101,6 +113,19 @@ static uint64_t read_(void) { return carderwheel_read_global(&engine, long_name,
 static uint64_t text_(void) { return carderwheel_text(&engine, long_text, buffer, sizeof buffer, &written); }
 static uint64_t bytes_(void) { return carderwheel_text_bytes(&engine, digits, sizeof digits, buffer, sizeof buffer, &written); }
 static uint64_t drain_(void) { return carderwheel_drain(&engine, buffer, sizeof buffer, &written); }
+
+static uint64_t write_text_(void) {
+    writer = opened;
+    return carderwheel_write_text(&writer, digits, sizeof image - 13);
+}
+static uint64_t write_code_(void) {
+    writer = opened;
+    return carderwheel_write_code(&writer, digits, sizeof image - 10);
+}
+static uint64_t write_null_(void) {
+    writer = opened;
+    return carderwheel_write_null(&writer);
+}
 
 static double least_of(const char *name, void (*prepare)(void), uint64_t (*call)(void), uint64_t number, int turns) {
     double least = 0;
@@ -149,6 +174,9 @@ static void calls(int turns, char **images, int count) {
     printf("text_bytes %.0f\n", least_of("text", nothing, bytes_, 0, turns));
     printf("drain %.0f\n", least_of("drain", full_output, drain_, 0, turns));
     printf("clear %.0f\n", least_of("clear", long_made, clear_, 0, turns));
+    printf("write_text %.0f\n", least_of("write text", open_template, write_text_, 0, turns));
+    printf("write_code %.0f\n", least_of("write code", open_template, write_code_, 0, turns));
+    printf("write_null_behind_text %.0f\n", least_of("write null", nearly_full, write_null_, 0, turns));
 }
 
 int main(int argc, char **argv) {
