@@ -6,9 +6,9 @@
      5 read global: size 1, name  6 run: 1  7 text: value, room 2  8 text of bytes: size 2, bytes, room 2  9 drain: room 2
      10 load an image whose code is: size 1, bytes  11 write into a store: 1, place 2, size 1, bytes  12 set a count: 1, 8
      13 lend the next call a store that is shorter: 1, by 2
-     14 a call of the image writer, a byte modulo 10:
+     14 a call of the image writer, a byte modulo 10 (of size 65,535 no bytes follow, and 65,536 are given):
        0 begin: room 2  1 template: 3, 3  2 number: 8  3 text: size 2, bytes  4 boolean: 1  5 null  6 undefined  7 function: 3  8 code: size 2, bytes
-       9 finish, and load what was written; of a size 65,535 no bytes follow, and 65,536 are given
+       9 finish, and load what was written
      15 set a word of the writer: 1, 8
    A value is 1, 8, 8. After 11 or 12 the stores are nobody's: document 01 leaves the answers open until the next clear, and only asks that a call ends and
    does nothing undefined. After 15 the same holds of the writer until the next begin. */
@@ -153,70 +153,6 @@ static const uint8_t *image_of(const uint8_t *code, size_t size, size_t *n) {
     return room[0] + ROOM - k;
 }
 
-/* The image writer: its buffer is the end of `paper`, which ends at a page that cannot be touched. */
-enum { PAPER = 4096 };
-static uint8_t *paper;
-static carderwheel_writer writer;
-static int drafted; /* the writer is as calls left it */
-
-static void load_written(size_t size);
-
-static void writer_call(void) {
-    static uint8_t old[PAPER];
-    unsigned call = (unsigned)number(1) % 10;
-    carderwheel_writer before = writer;
-    memcpy(old, paper, PAPER);
-    const uint8_t *given = NULL; /* where there are no bytes */
-    size_t n = 0, size = SIZE_MAX;
-    uint64_t own = 0, first, second, answer;
-    if (call == 3 || call == 8) {
-        n = number(2);
-        if (n == 65535) given = room[0], n = ROOM;
-        else if (n != 0) given = bytes(0, n, &n);
-    }
-    switch (call) {
-    case 0:
-        first = number(2), n = first < PAPER ? first : PAPER;
-        answer = carderwheel_write_begin(&writer, paper + PAPER - n, n);
-        break;
-    case 1:
-        own = 8, first = number(3), second = number(3);
-        answer = carderwheel_write_template(&writer, first, second);
-        break;
-    case 2: own = 9, answer = carderwheel_write_number(&writer, number(8)); break;
-    case 3: own = 3 + n, answer = carderwheel_write_text(&writer, given, n); break;
-    case 4: own = 2, answer = carderwheel_write_boolean(&writer, (int)number(1)); break;
-    case 5: own = 1, answer = carderwheel_write_null(&writer); break;
-    case 6: own = 1, answer = carderwheel_write_undefined(&writer); break;
-    case 7: own = 3, answer = carderwheel_write_function(&writer, number(3)); break;
-    case 8: own = n, answer = carderwheel_write_code(&writer, given, n); break;
-    default: answer = carderwheel_write_finish(&writer, &size); break;
-    }
-    if (answer != 0 && answer != 31 && answer != 34) wrong("a number that the image writer does not have");
-    look(paper);
-    size_t front = (size_t)(writer.buffer != NULL ? writer.buffer - paper : PAPER);
-    if (memcmp(paper, old, front) != 0) wrong("bytes before the image writer's buffer are changed");
-    met[3072 + call * 64 + answer] = 1;
-    if (call == 0 && answer == 0) drafted = 1;
-    if (!drafted) return;
-    if (answer != 0) {
-        if (memcmp(&writer, &before, sizeof writer) != 0 || size != SIZE_MAX) wrong("a refusal that alters the image writer");
-        if (memcmp(paper, old, PAPER) != 0) wrong("a refusal that alters the image writer's buffer");
-        return;
-    }
-    carderwheel_writer_state s = writer.state;
-    if (s.size > writer.capacity || s.size != (call == 0 ? 2 : before.state.size + own)) wrong("other bytes written than the call's own");
-    if (s.templates != (call == 0 ? 0 : before.state.templates + (call == 1))) wrong("a wrong number of templates");
-    if ((uint64_t)(writer.buffer[0] << 8 | writer.buffer[1]) != s.templates) wrong("a wrong number of templates in the image");
-    if (memcmp(writer.buffer + s.size, old + front + s.size, writer.capacity - s.size) != 0) wrong("bytes past those written are changed");
-    if (s.templates != 0 && (uint64_t)(writer.buffer[s.at + 4] << 8 | writer.buffer[s.at + 5]) != s.constants) wrong("a wrong number of constants");
-    met[3712 + size_of(s.size)] = met[3776 + size_of(s.templates)] = met[3840 + size_of(s.constants)] = 1;
-    if (call == 9) {
-        if (size != s.size) wrong("a finish that tells another size");
-        load_written(size);
-    }
-}
-
 #define LENT                                                                                                                                          \
     store[0], lent[0], (uint16_t *)store[1], lent[1], (uint16_t *)store[2], lent[2], (uint16_t *)store[3], lent[3], (uint64_t *)store[4], lent[4],    \
         (uint64_t *)store[5], lent[5], store[6], lent[6], store[7], lent[7], counts
@@ -299,6 +235,12 @@ static void host_call(unsigned call) {
     settle(call, a.number, a.counts, before);
 }
 
+/* The image writer: its buffer is the end of `paper`, which ends at a page that cannot be touched. */
+enum { PAPER = 4096 };
+static uint8_t *paper;
+static carderwheel_writer writer;
+static int drafted; /* the writer is as calls left it */
+
 /* A finished image: the loader finds nothing wrong with its form. */
 static void load_written(size_t size) {
     int whole = owned;
@@ -308,6 +250,62 @@ static void load_written(size_t size) {
     if (whole && n != 0 && n != 2 && n != 5 && n != 6 && n != 8 && n != 9) wrong("a written image is refused for its form");
     met[3904 + n % 64] = 1;
     settle(1, a.number, a.counts, 0);
+}
+
+static void writer_call(void) {
+    static uint8_t old[PAPER];
+    unsigned call = (unsigned)number(1) % 10;
+    carderwheel_writer before = writer;
+    memcpy(old, paper, PAPER);
+    const uint8_t *given = NULL; /* where there are no bytes */
+    size_t n = 0, size = SIZE_MAX;
+    uint64_t own = 0, first, second, answer;
+    if (call == 3 || call == 8) {
+        n = number(2);
+        if (n == 65535) given = room[0], n = ROOM;
+        else if (n != 0) given = bytes(0, n, &n);
+    }
+    switch (call) {
+    case 0:
+        first = number(2), n = first < PAPER ? first : PAPER;
+        answer = carderwheel_write_begin(&writer, paper + PAPER - n, n);
+        break;
+    case 1:
+        own = 8, first = number(3), second = number(3);
+        answer = carderwheel_write_template(&writer, first, second);
+        break;
+    case 2: own = 9, answer = carderwheel_write_number(&writer, number(8)); break;
+    case 3: own = 3 + n, answer = carderwheel_write_text(&writer, given, n); break;
+    case 4: own = 2, answer = carderwheel_write_boolean(&writer, (int)number(1)); break;
+    case 5: own = 1, answer = carderwheel_write_null(&writer); break;
+    case 6: own = 1, answer = carderwheel_write_undefined(&writer); break;
+    case 7: own = 3, answer = carderwheel_write_function(&writer, number(3)); break;
+    case 8: own = n, answer = carderwheel_write_code(&writer, given, n); break;
+    default: answer = carderwheel_write_finish(&writer, &size); break;
+    }
+    if (answer != 0 && answer != 31 && answer != 34) wrong("a number that the image writer does not have");
+    look(paper);
+    size_t front = (size_t)(writer.buffer != NULL ? writer.buffer - paper : PAPER);
+    if (memcmp(paper, old, front) != 0) wrong("bytes before the image writer's buffer are changed");
+    met[3072 + call * 64 + answer] = 1;
+    if (call == 0 && answer == 0) drafted = 1;
+    if (!drafted) return;
+    if (answer != 0) {
+        if (memcmp(&writer, &before, sizeof writer) != 0 || size != SIZE_MAX) wrong("a refusal that alters the image writer");
+        if (memcmp(paper, old, PAPER) != 0) wrong("a refusal that alters the image writer's buffer");
+        return;
+    }
+    carderwheel_writer_state s = writer.state;
+    if (s.size > writer.capacity || s.size != (call == 0 ? 2 : before.state.size + own)) wrong("other bytes written than the call's own");
+    if (s.templates != (call == 0 ? 0 : before.state.templates + (call == 1))) wrong("a wrong number of templates");
+    if ((uint64_t)(writer.buffer[0] << 8 | writer.buffer[1]) != s.templates) wrong("a wrong number of templates in the image");
+    if (memcmp(writer.buffer + s.size, old + front + s.size, writer.capacity - s.size) != 0) wrong("bytes past those written are changed");
+    if (s.templates != 0 && (uint64_t)(writer.buffer[s.at + 4] << 8 | writer.buffer[s.at + 5]) != s.constants) wrong("a wrong number of constants");
+    met[3712 + size_of(s.size)] = met[3776 + size_of(s.templates)] = met[3840 + size_of(s.constants)] = 1;
+    if (call == 9) {
+        if (size != s.size) wrong("a finish that tells another size");
+        load_written(size);
+    }
 }
 
 int LLVMFuzzerTestOneInput(const uint8_t *data, size_t size) {

@@ -82,7 +82,7 @@ impl Write {
         })
     }
 
-    /// The call in one line, which `read` takes.
+    /// The call in one line.
     pub fn line(&self) -> String {
         let rest = match self {
             Write::Begin(buffer, room) => format!(" {} {}", buffer, room),
@@ -96,14 +96,10 @@ impl Write {
         format!("write {}{}", NAMES[self.which()], rest)
     }
 
-    /// A call from its line; None for any other line.
-    pub fn read(line: &str) -> Option<Write> {
-        let words: Vec<&str> = line.split(';').next().unwrap().split_whitespace().collect();
-        if words.first() != Some(&"write") {
-            return None;
-        }
+    fn read(line: &str) -> Write {
+        let words: Vec<&str> = line.split_whitespace().collect();
         let n = |i: usize| words[i].parse::<u64>().expect("a number");
-        Some(match words[1] {
+        match words[1] {
             "begin" => Write::Begin(n(2) as usize % 2, n(3) as usize),
             "template" => Write::Template(n(2), n(3)),
             "number" => Write::Number(words[2].parse().expect("a number")),
@@ -115,7 +111,7 @@ impl Write {
             "code" => Write::Code(unhex(words[2])),
             "finish" => Write::Finish,
             w => panic!("unknown call write {}", w),
-        })
+        }
     }
 
     /// The call as fuzz/calls.c reads it; numbers that do not fit there are cut.
@@ -140,6 +136,21 @@ impl Write {
         }
         out
     }
+}
+
+/// A list in lines, which `read` takes; calls that come again and again are in one.
+pub fn lines(list: &[Write]) -> Vec<String> {
+    let line = |same: &[Write]| if same.len() > 1 { format!("{} times {}", same[0].line(), same.len()) } else { same[0].line() };
+    list.chunk_by(|a, b| a == b).map(line).collect()
+}
+
+/// The calls of the image writer in a file of calls.
+pub fn read(text: &str) -> Vec<Write> {
+    let call = |line: &str| {
+        let (one, times) = line.split_once(" times ").unwrap_or((line, "1"));
+        vec![Write::read(one); times.trim().parse().expect("a number")]
+    };
+    text.lines().filter(|l| l.starts_with("write ")).flat_map(call).collect()
 }
 
 /// A list as an input of the fuzzer.

@@ -423,8 +423,7 @@ pub fn asked(words: &Words) -> Box<dyn Iterator<Item = (String, Vec<Write>)>> {
     let (seed, count, from) = (words.number("seed", 1u64), words.number("count", 20_000u64), words.number("from", 0u64));
     if let Some(file) = words.text("calls") {
         let text = std::fs::read_to_string(file).expect("a file of calls");
-        let given: Vec<Write> = text.lines().filter_map(Write::read).collect();
-        let named = (format!("{}, the image writer", file), given);
+        let named = (format!("{}, the image writer", file), writes::read(&text));
         return Box::new(std::iter::once(named).filter(|l| !l.1.is_empty()).map(|l| (dying::note(l.0), l.1)));
     }
     let by_hand = if from == 0 { writes::edges() } else { Vec::new() };
@@ -434,9 +433,21 @@ pub fn asked(words: &Words) -> Box<dyn Iterator<Item = (String, Vec<Write>)>> {
     Box::new(by_hand.into_iter().enumerate().map(named).chain(made))
 }
 
-/// The list made smaller as long as it differs: calls, then their bytes.
-fn smaller(list: Vec<Write>, differs: &mut dyn FnMut(&[Write]) -> bool) -> Vec<Write> {
-    let mut list = shrinking::cut(list, &|l: &[Write]| l.to_vec(), differs);
+/// The list made smaller as long as it differs: calls, then their bytes. Equal ones in a row go together, by halves, since there can be very many.
+fn smaller(list: &[Write], differs: &mut dyn FnMut(&[Write]) -> bool) -> Vec<Write> {
+    let rows: Vec<Vec<Write>> = list.chunk_by(|a, b| a == b).map(<[Write]>::to_vec).collect();
+    let mut rows = shrinking::cut(rows, &|r: &[Vec<Write>]| r.concat(), differs);
+    for n in 0..rows.len() {
+        while rows[n].len() > 1 {
+            let mut left = rows.clone();
+            left[n].truncate(rows[n].len() / 2);
+            if !differs(&left.concat()) {
+                break;
+            }
+            rows = left;
+        }
+    }
+    let mut list = rows.concat();
     for n in 0..list.len() {
         let (of, bytes): (fn(Vec<u8>) -> Write, _) = match list[n].clone() {
             Write::Text(b) => (Write::Text, b),
@@ -459,10 +470,10 @@ pub fn tell(library: &mut Library, what: &str, list: &[Write], at: usize, why: &
     println!("DIFFERENT: {}, call {}: {}", what, at, why);
     let begun = Instant::now();
     let mut differs = |l: &[Write]| begun.elapsed() < super::SHRINKING && check(library, l, &mut Seen::new()).is_err();
-    let small = smaller(list.to_vec(), &mut differs);
+    let small = smaller(list, &mut differs);
     println!("the smallest list of calls that was found, for --calls:");
-    for c in &small {
-        println!("{}", c.line());
+    for line in writes::lines(&small) {
+        println!("{}", line);
     }
     if let Err((n, e)) = check(library, &small, &mut Seen::new()) {
         println!("; call {}: {}", n, e);

@@ -189,7 +189,7 @@ fn print<'a>(
     }
 }
 
-pub fn run_image(
+fn whole(
     code: &mut [u8; CODE_BYTES],
     places: &mut [u16; CODE_BYTES],
     rows: &mut [u16; CODE_BYTES],
@@ -228,5 +228,29 @@ pub fn run_image(
         output,
         buffer,
         t,
+    );
+}
+
+pub fn run_image(image: &[u8]) {
+    let mut code: [u8; CODE_BYTES] = [0; CODE_BYTES];
+    let mut places: [u16; CODE_BYTES] = [0; CODE_BYTES];
+    let mut rows: [u16; CODE_BYTES] = [0; CODE_BYTES];
+    let mut starts: [u16; IMAGES] = [0; IMAGES];
+    let mut stacks: [u64; STACK_WORDS] = [0; STACK_WORDS];
+    let mut heap: [u64; HEAP_WORDS] = [0; HEAP_WORDS];
+    let mut text: [u8; TEXT_LIMIT] = [0; TEXT_LIMIT];
+    let mut output: [u8; OUTPUT_LIMIT] = [0; OUTPUT_LIMIT];
+    let mut buffer: [u8; 65536] = [0; 65536];
+    whole(
+        &mut code,
+        &mut places,
+        &mut rows,
+        &mut starts,
+        &mut stacks,
+        &mut heap,
+        &mut text,
+        &mut output,
+        &mut buffer,
+        image,
     );
 }

@@ -2,41 +2,11 @@
 //! input, loads and runs them; then meets every refusal at its edge.
 use crate::rows::OTHER;
 use crate::rows::Tally;
-use heap::HEAP_WORDS;
-use image::CODE_BYTES;
-use image::IMAGES;
 use libc::STDOUT_FILENO;
 use report::say;
-use stacks::STACK_WORDS;
-use texts::OUTPUT_LIMIT;
-use texts::TEXT_LIMIT;
 
 mod examples;
 mod rows;
-
-fn run(image: &[u8]) {
-    let mut code: [u8; CODE_BYTES] = [0; CODE_BYTES];
-    let mut places: [u16; CODE_BYTES] = [0; CODE_BYTES];
-    let mut rows: [u16; CODE_BYTES] = [0; CODE_BYTES];
-    let mut starts: [u16; IMAGES] = [0; IMAGES];
-    let mut stacks: [u64; STACK_WORDS] = [0; STACK_WORDS];
-    let mut heap: [u64; HEAP_WORDS] = [0; HEAP_WORDS];
-    let mut text: [u8; TEXT_LIMIT] = [0; TEXT_LIMIT];
-    let mut output: [u8; OUTPUT_LIMIT] = [0; OUTPUT_LIMIT];
-    let mut buffer: [u8; 65536] = [0; 65536];
-    report::run_image(
-        &mut code,
-        &mut places,
-        &mut rows,
-        &mut starts,
-        &mut stacks,
-        &mut heap,
-        &mut text,
-        &mut output,
-        &mut buffer,
-        image,
-    );
-}
 
 fn told(name: &[u8], same: bool) {
     io::write_all(STDOUT_FILENO, name);
@@ -57,7 +27,7 @@ fn compare(name: &[u8], buffer: &[u8], size: usize, stored: &[u8]) {
         name,
         texts::equal_bytes(image, stored) && examples::others(buffer, size),
     );
-    run(image);
+    report::run_image(image);
 }
 
 fn write_examples(t: Tally, stored: &[u8]) -> Tally {

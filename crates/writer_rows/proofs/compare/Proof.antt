@@ -7,7 +7,7 @@ use Rattle.writer_rows.proofs.compare.Reads as reads
 use Rattle.writer_rows.proofs.compare.Lts as lts
 use Rattle.texts.proofs.equal_bytes.Reads as equal-bytes-reads
 use Rattle.writer_rows.proofs.examples.others.Reads as others-reads
-use Rattle.writer_rows.proofs.run.Reads as run-reads
+use Rattle.report.proofs.run_image.Reads as run-image-reads
 use Rattle.writer_rows.proofs.told.Reads as told-reads
 
 returns : tie.Need-returns
@@ -25,8 +25,8 @@ others-requires c κs = search needs
 told-requires : tie.Need-told-requires
 told-requires c κs = search needs
 
-run-requires : tie.Need-run-requires
-run-requires c κs = search needs
+run-image-requires : tie.Need-run-image-requires
+run-image-requires c κs = search needs
 
 returns-2 : tie.Need-returns-2
 returns-2 c = search needs
@@ -40,5 +40,5 @@ compare-spec =
     equal-bytes-requires
     others-requires
     told-requires
-    run-requires
+    run-image-requires
     returns-2)
