@@ -19,7 +19,7 @@ use Rattle.number.specs.Overwrite.{overwrite, as-paste, overwrite-more, overwri
 use Rattle.writer.specs.declared.Writer.{Writer}
 use Rattle.writer.specs.declared.Written.{Written}
 use Rattle.writer.specs.declared.Written.the-variants.{Wrote, Refused}
-use Rattle.writer.specs.View.{stageOf, writerOf, sessionOf, takesIn, refusal, left, answer, Does}
+use Rattle.writer.specs.View.{stageOf, writerOf, sessionOf, takesIn, refusal, left, answer, Numbered, Does}
 
 -- Bytes
 
@@ -108,10 +108,11 @@ module _ (c : W.Call) (w : Writer) (b : List ℕ) where
   answer-others o = ap (λ (t : Bool). W.askedOn t c (sessionOf w b)) o
 
   pub does-refused : (n : ℕ) → answer c w b ≡ some n → Does c w b (Refused n) b
-  does-refused n e = record { said = sym e; session = sym (ap (λ q. W.performed q c (sessionOf w b)) e) }
+  does-refused n e = record { said = sym e; session = sym (ap (λ q. W.performed q c (sessionOf w b)) e); numbered = tt }
 
-  pub does-wrote : (y : Writer) (b′ : List ℕ) → answer c w b ≡ none → writerOf y ≡ W.after c (writerOf w) → b′ ≡ W.write c (writerOf w) b → Does c w b (Wrote y) b′
-  does-wrote y b′ e ew eb = record {
+  pub does-wrote : (y : Writer) (b′ : List ℕ) → Numbered (Wrote y) → answer c w b ≡ none → writerOf y ≡ W.after c (writerOf w) → b′ ≡ W.write c (writerOf w) b → Does c w b (Wrote y) b′
+  does-wrote y b′ n e ew eb = record {
+    numbered = n;
     said = sym e;
     session = ap₂ (λ (x : W.Writer) (z : List ℕ). record { writer = x; buffer = z }) ew eb ∙ sym (ap (λ q. W.performed q c (sessionOf w b)) e);
   }
@@ -123,7 +124,7 @@ begins-short w b h = does-refused W.begin w b 31 (answer-31 W.begin w b refl ref
 
 pub begins : (w : Writer) (b b′ : List ℕ) → 2 ≤ length b → b′ ≡ overwrite b 0 (word 0) → Does W.begin w b (Wrote (record { stage = 1; size = 2; templates = 0; at = 0; constants = 0 })) b′
 unfolding overwrite
-begins w b b′ h e = does-wrote W.begin w b (record { stage = 1; size = 2; templates = 0; at = 0; constants = 0 }) b′ (answer-none W.begin w b refl refl (le-leb 2 (length b) h)) refl e
+begins w b b′ h e = does-wrote W.begin w b (record { stage = 1; size = 2; templates = 0; at = 0; constants = 0 }) b′ refl (answer-none W.begin w b refl refl (le-leb 2 (length b) h)) refl e
 
 and-true : (x : Bool) → (x && true) ≡ x
 and-true true = refl
@@ -132,7 +133,7 @@ and-true false = refl
 pub finishes : (w : Writer) (b : List ℕ) → W.underway (stageOf (w .stage)) ≡ true
     → Does W.finish w b (Wrote (record { stage = 4; size = w .size; templates = w .templates; at = w .at; constants = w .constants })) b
 finishes w b e =
-    does-wrote W.finish w b (record { stage = 4; size = w .size; templates = w .templates; at = w .at; constants = w .constants }) b
+    does-wrote W.finish w b (record { stage = 4; size = w .size; templates = w .templates; at = w .at; constants = w .constants }) b refl
     (answer-none W.finish w b refl (ap (λ (t : Bool). t && true) e) refl) refl refl
 
 pub finishes-not : (w : Writer) (b : List ℕ) → W.underway (stageOf (w .stage)) ≡ false → Does W.finish w b (Refused 34) b
@@ -172,7 +173,7 @@ module _ (w : Writer) (b : List ℕ) (p l : ℕ) where
         let f₂ : b₂ ≡ overwrite b (w .size) (word p ++ word l) = e₂ ∙ ap (λ (x : List ℕ). overwrite x (w .size + 2) (word l)) e₁ ∙ overwrite-more b (w .size) (word p) (omega arith) (word l) in
         let f₃ : b₃ ≡ overwrite b (w .size) (word p ++ word l ++ word 0) = e₃ ∙ ap (λ (x : List ℕ). overwrite x (w .size + 4) (word 0)) f₂ ∙ overwrite-more b (w .size) (word p ++ word l) (omega arith) (word 0) in
         let f₄ : b₄ ≡ overwrite b (w .size) (word p ++ word l ++ word 0 ++ word 0) = e₄ ∙ ap (λ (x : List ℕ). overwrite x (w .size + 6) (word 0)) f₃ ∙ overwrite-more b (w .size) (word p ++ word l ++ word 0) (omega arith) (word 0) in
-        does-wrote (W.template p l) w b (record { stage = 2; size = w .size + 8; templates = w .templates + 1; at = w .size; constants = 0 }) b₅ (answer-none (W.template p l) w b refl e r) refl
+        does-wrote (W.template p l) w b (record { stage = 2; size = w .size + 8; templates = w .templates + 1; at = w .size; constants = 0 }) b₅ refl (answer-none (W.template p l) w b refl e r) refl
         (e₅ ∙ as-machine b₄ 0 (word (w .templates + 1)) ∙ ap (λ (x : List ℕ). W.overwrite x 0 (word (w .templates + 1))) (f₄ ∙ as-machine b (w .size) (word p ++ word l ++ word 0 ++ word 0)))
 
 -- A constant
@@ -219,7 +220,7 @@ module _ (w : Writer) (b : List ℕ) (c : F.Constant) (t : takesIn (writerOf w) 
       e₂ ∙ ap (λ (x : List ℕ). overwrite x (w .size - 2 + length head) body) e₁ ∙ overwrite-more b (w .size - 2) head (omega arith) body ∙ ap (overwrite b (w .size - 2)) (sym ec) in
       let f₃ : b₃ ≡ overwrite b (w .size - 2) (F.constantBytes c ++ word 0) =
       e₃ ∙ ap₂ (λ (x : List ℕ) (k : ℕ). overwrite x (w .size - 2 + k) (word 0)) f₂ l ∙ overwrite-more b (w .size - 2) (F.constantBytes c) (omega arith) (word 0) in
-      does-wrote (W.constant c) w b (record { stage = 2; size = w .size + k; templates = w .templates; at = w .at; constants = w .constants + 1 }) b₄
+      does-wrote (W.constant c) w b (record { stage = 2; size = w .size + k; templates = w .templates; at = w .at; constants = w .constants + 1 }) b₄ refl
       (answer-none (W.constant c) w b (takes-both w t .0) turn (ap (λ (x : ℕ). leb (w .size + x) (length b)) (sym l) ∙ r))
       (ap (λ (x : ℕ). record { stage = W.opened; size = w .size + x; templates = w .templates; at = w .at; constants = w .constants + 1 }) l)
       (e₄ ∙ as-machine b₃ (w .at + 4) (word (w .constants + 1)) ∙ ap (λ (x : List ℕ). W.overwrite x (w .at + 4) (word (w .constants + 1))) (f₃ ∙ as-machine b (w .size - 2) (F.constantBytes c ++ word 0)))
@@ -245,7 +246,7 @@ module _ (w : Writer) (b bs : List ℕ) (t : takesIn (writerOf w) ≡ true) (n :
   code-wrote b₁ b₂ r e₁ e₂ =
       let h : w .size + length bs ≤ length b = leb-true (w .size + length bs) (length b) r in
       let f : b₂ ≡ overwrite b (w .size - 2) (word (length bs) ++ bs) = e₂ ∙ ap (λ (x : List ℕ). overwrite x (w .size - 2 + 2) bs) e₁ ∙ overwrite-more b (w .size - 2) (word (length bs)) (omega arith) bs in
-      does-wrote (W.code bs) w b (record { stage = 3; size = w .size + length bs; templates = w .templates; at = w .at; constants = w .constants }) b₂ (answer-none (W.code bs) w b (takes-both w t .0) code-turn r) refl
+      does-wrote (W.code bs) w b (record { stage = 3; size = w .size + length bs; templates = w .templates; at = w .at; constants = w .constants }) b₂ refl (answer-none (W.code bs) w b (takes-both w t .0) code-turn r) refl
       (f ∙ as-machine b (w .size - 2) (word (length bs) ++ bs))
 
 -- The bytes of each kind

@@ -17,6 +17,14 @@ stageOf (suc (suc zero)) = W.opened
 stageOf (suc (suc (suc zero))) = W.coded
 stageOf (suc (suc (suc (suc n)))) = W.finished
 
+-- The number that stands for a stage: any above 3 reads as finished, and 4 is the one that is written.
+abbrev pub stageNumber : W.Stage → ℕ
+stageNumber W.unbegun = 0
+stageNumber W.begun = 1
+stageNumber W.opened = 2
+stageNumber W.coded = 3
+stageNumber W.finished = 4
+
 abbrev pub writerOf : Writer → W.Writer
 writerOf w = record { stage = stageOf (w .stage); size = w .size; templates = w .templates; at = w .at; constants = w .constants }
 
@@ -38,7 +46,13 @@ left (Refused n) w = w
 abbrev pub answer : W.Call → Writer → List ℕ → Option ℕ
 answer c w b = W.askedOn (W.inPlace c (writerOf w)) c (sessionOf w b)
 
+-- The stage that an accepted call leaves has its own number, so that each word of the writer is fixed.
+abbrev pub Numbered : Written → Type 0
+Numbered (Wrote y) = y .stage ≡ stageNumber (stageOf (y .stage))
+Numbered (Refused n) = Unit {0}
+
 -- THE CONTRACT of a call, over any writer and any buffer: its answer, the writer and every byte of the buffer are the machine's.
 pub record Does (c : W.Call) (w : Writer) (b : List ℕ) (r : Written) (b′ : List ℕ) : Type 0 where
   pub said : refusal r ≡ answer c w b
   pub session : sessionOf (left r w) b′ ≡ W.performed (answer c w b) c (sessionOf w b)
+  pub numbered : Numbered r
