@@ -1,3 +1,4 @@
+pub mod Reading
 pub mod Images
 pub mod Format
 pub mod Loads

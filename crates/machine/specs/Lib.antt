@@ -1,6 +1,7 @@
 pub mod Basic
 pub mod Ascii
 pub mod Number
+pub mod Reading
 pub mod Value
 pub mod Image
 pub mod State

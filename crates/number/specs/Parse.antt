@@ -1,16 +1,21 @@
--- Text to number: what the loops of `reading` hold, and how they go on and end. Assumes nothing.
+-- Text to number: readings as the machine has them, what the loops hold, and how they go on and end. Assumes nothing.
 use mathlib.Core.Bool.{Bool, true, false, _&&_, _||_}
 use mathlib.Core.Path.{_≡_, refl, sym, ap, _∙_}
-use mathlib.Core.List.{List, [], _∷_, reverse, reverse-append, reverse-reverse}
+use mathlib.Core.List.{List, [], _∷_}
 use Prim.Native.Nat.{ℕ, suc, _+_, _-_, _*_, _≤_, _<_}
 use native.Mathlib.Numerals.{add-one}
 use native.Mathlib.Omega.{arith}
 use lib.Dec.{leb, eqb}
 use lib.ListN.{length, take, drop, getD, drop-of-length-le, length-drop}
-use lib.Seq.{drop-cons, take-suc, take-length, take-all}
+use lib.Seq.{drop-cons, take-all}
 use borrow.Author.Tests.{le-leb, lt-leb, eq-eqb, ne-eqb, leb-true}
 use Rattle.machine.specs.Basic.{if_then_else_}
 use Rattle.machine.specs.Number as N
+use Rattle.machine.specs.Reading as R
+use Rattle.machine.proofs.Reading.{blank-digit}
+use Rattle.number.specs.declared.parse.Reading.{Reading}
+use Rattle.number.specs.declared.parse.Reading.the-variants.{Leading, Digits, Trailing, Invalid}
+use Rattle.number.specs.declared.parse.Saved.{Saved}
 
 -- The two tests of a byte
 
@@ -40,7 +45,51 @@ and-first false y e = e
 pub digit-ge : (b : ℕ) → N.isDigit b ≡ true → 48 ≤ b
 digit-ge b e = leb-true 48 b (and-first (leb 48 b) (leb b 57) e)
 
--- Blanks in front
+digit-blank : (b : ℕ) → N.isDigit b ≡ true → N.isBlank b ≡ false
+digit-blank b d = by (N.isBlank b) (blank-digit b)
+  where
+    by : (t : Bool) → (t ≡ true → N.isDigit b ≡ false) → t ≡ false
+    by true f = sym d ∙ f refl
+    by false f = refl
+
+-- Readings and saved ones, as the machine's
+
+abbrev pub readingOf : Reading → R.Reading
+readingOf Leading = R.leading
+readingOf (Digits minus n) = R.digits minus n
+readingOf (Trailing minus n) = R.trailing minus n
+readingOf Invalid = R.invalid
+
+abbrev pub saved : ℕ → ℕ → ℕ → R.Saved
+saved stage worth minus = record { stage = stage; minus = minus; worth = worth }
+
+abbrev pub savedOf : Saved → R.Saved
+savedOf p = saved (p .stage) (p .worth) (p .minus)
+
+-- What is restored, by its stage
+
+pub restore-leading : (p : R.Saved) → p .stage ≡ 0 → R.leading ≡ R.restore p
+restore-leading p e = ap (λ (k : ℕ). R.restore (saved k (p .worth) (p .minus))) (sym e)
+
+pub restore-digits : (p : R.Saved) → p .stage ≡ 1 → R.digits (eqb (p .minus) 1) (p .worth) ≡ R.restore p
+restore-digits p e = ap (λ (k : ℕ). R.restore (saved k (p .worth) (p .minus))) (sym e)
+
+pub restore-trailing : (p : R.Saved) → p .stage ≡ 2 → R.trailing (eqb (p .minus) 1) (p .worth) ≡ R.restore p
+restore-trailing p e = ap (λ (k : ℕ). R.restore (saved k (p .worth) (p .minus))) (sym e)
+
+pub restore-invalid : (p : R.Saved) → (p .stage ≡ 0 → ⊥) → (p .stage ≡ 1 → ⊥) → (p .stage ≡ 2 → ⊥) → R.invalid ≡ R.restore p
+restore-invalid p f g h = sym (
+    ap (λ (t : Bool). if t then R.leading else if eqb (p .stage) 1 then d else if eqb (p .stage) 2 then t₂ else R.invalid) (ne-eqb (p .stage) 0 f)
+    ∙ ap (λ (t : Bool). if t then d else if eqb (p .stage) 2 then t₂ else R.invalid) (ne-eqb (p .stage) 1 g)
+    ∙ ap (λ (t : Bool). if t then t₂ else R.invalid) (ne-eqb (p .stage) 2 h))
+  where
+    d : R.Reading
+    d = R.digits (eqb (p .minus) 1) (p .worth)
+
+    t₂ : R.Reading
+    t₂ = R.trailing (eqb (p .minus) 1) (p .worth)
+
+-- Blanks
 
 cut-blank : (b : ℕ) (bs : List ℕ) → N.isBlank b ≡ true → N.cutFront (b ∷ bs) ≡ N.cutFront bs
 cut-blank b bs e = ap (λ (t : Bool). if t then N.cutFront bs else b ∷ bs) e
@@ -48,111 +97,146 @@ cut-blank b bs e = ap (λ (t : Bool). if t then N.cutFront bs else b ∷ bs) e
 cut-other : (b : ℕ) (bs : List ℕ) → N.isBlank b ≡ false → N.cutFront (b ∷ bs) ≡ b ∷ bs
 cut-other b bs e = ap (λ (t : Bool). if t then N.cutFront bs else b ∷ bs) e
 
-pub record Front (s : List ℕ) (i : ℕ) : Type 0 where
-  pub within : i ≤ length s
-  pub same : N.cutFront s ≡ N.cutFront (drop i s)
+-- What `after_blanks` holds: no more than blanks stands between i and k.
+pub record Blanks (s : List ℕ) (i k : ℕ) : Type 0 where
+  pub within : k ≤ length s
+  pub same : N.cutFront (drop i s) ≡ N.cutFront (drop k s)
 
-pub front-none : (s : List ℕ) → Front s 0
-front-none s = record { within = omega arith; same = refl }
+pub blanks-none : (s : List ℕ) (i : ℕ) → i ≤ length s → Blanks s i i
+blanks-none s i h = record { within = h; same = refl }
 
-pub front-more : (s : List ℕ) (i : ℕ) → Front s i → i < length s → N.isBlank (getD s i 0) ≡ true → Front s (i + 1)
-front-more s i f h e = record {
+pub blanks-more : (s : List ℕ) (i k : ℕ) → Blanks s i k → k < length s → N.isBlank (getD s k 0) ≡ true → Blanks s i (k + 1)
+blanks-more s i k f h e = record {
   within = omega arith;
-  same = f .same ∙ ap N.cutFront (drop-cons s i 0 h) ∙ cut-blank (getD s i 0) (drop (suc i) s) e ∙ ap (λ (k : ℕ). N.cutFront (drop k s)) (sym (add-one i));
+  same = f .same ∙ ap N.cutFront (drop-cons s k 0 h) ∙ cut-blank (getD s k 0) (drop (suc k) s) e ∙ ap (λ (j : ℕ). N.cutFront (drop j s)) (sym (add-one k));
 }
 
-pub front-stop : (s : List ℕ) (i : ℕ) → Front s i → i < length s → N.isBlank (getD s i 0) ≡ false → (i ≤ length s) × (N.cutFront s ≡ drop i s)
-front-stop s i f h e = (f .within, f .same ∙ ap N.cutFront (drop-cons s i 0 h) ∙ cut-other (getD s i 0) (drop (suc i) s) e ∙ sym (drop-cons s i 0 h))
+pub blanks-stop : (s : List ℕ) (i k : ℕ) → Blanks s i k → k < length s → N.isBlank (getD s k 0) ≡ false → (k ≤ length s) × (N.cutFront (drop i s) ≡ drop k s)
+blanks-stop s i k f h e = (f .within, f .same ∙ ap N.cutFront (drop-cons s k 0 h) ∙ cut-other (getD s k 0) (drop (suc k) s) e ∙ sym (drop-cons s k 0 h))
 
-pub front-all : (s : List ℕ) (i : ℕ) → Front s i → length s ≤ i → (i ≤ length s) × (N.cutFront s ≡ drop i s)
-front-all s i f h = let e : drop i s ≡ [] = drop-of-length-le s h in (f .within, f .same ∙ ap N.cutFront e ∙ sym e)
+pub blanks-all : (s : List ℕ) (i k : ℕ) → Blanks s i k → length s ≤ k → (k ≤ length s) × (N.cutFront (drop i s) ≡ drop k s)
+blanks-all s i k f h = let e : drop k s ≡ [] = drop-of-length-le s h in (f .within, f .same ∙ ap N.cutFront e ∙ sym e)
 
--- Blanks at the end
+-- The first byte behind the blanks is none.
+abbrev startsBlank : List ℕ → Bool
+startsBlank [] = false
+startsBlank (b ∷ bs) = N.isBlank b
 
-last-of : (s : List ℕ) (k : ℕ) → k < length s → reverse (take (suc k) s) ≡ getD s k 0 ∷ reverse (take k s)
-last-of s k h = ap reverse (take-suc s k 0 h) ∙ reverse-append (take k s) (getD s k 0 ∷ [])
+cut-starts : (bs : List ℕ) → startsBlank (N.cutFront bs) ≡ false
+cut-starts [] = refl
+cut-starts (b ∷ bs) = by (N.isBlank b) refl (cut-starts bs)
+  where
+    by : (t : Bool) → N.isBlank b ≡ t → startsBlank (N.cutFront bs) ≡ false → startsBlank (if t then N.cutFront bs else b ∷ bs) ≡ false
+    by true e more = more
+    by false e more = e
 
-pub record Back (s : List ℕ) (e : ℕ) : Type 0 where
-  pub within : e ≤ length s
-  pub same : N.cutFront (reverse s) ≡ N.cutFront (reverse (take e s))
+-- Leading and trailing blanks leave a reading as it is.
+leading-cut : (bs : List ℕ) → R.resume R.leading bs ≡ R.resume R.leading (N.cutFront bs)
+leading-cut [] = refl
+leading-cut (b ∷ bs) = by (N.isBlank b) refl (leading-cut bs)
+  where
+    by : (t : Bool) → N.isBlank b ≡ t → R.resume R.leading bs ≡ R.resume R.leading (N.cutFront bs) → R.resume (R.next R.leading b) bs ≡ R.resume R.leading (if t then N.cutFront bs else b ∷ bs)
+    by true e more = ap (λ (t : Bool). R.resume (if t then R.leading else if eqb b 45 then R.digits true 0 else R.digit false 0 b) bs) e ∙ more
+    by false e more = refl
 
-pub back-none : (s : List ℕ) → Back s (length s)
-back-none s = record { within = omega arith; same = ap (λ (l : List ℕ). N.cutFront (reverse l)) (sym (take-length s)) }
+trailing-cut : (minus : Bool) (n : ℕ) (bs : List ℕ) → R.resume (R.trailing minus n) bs ≡ R.resume (R.trailing minus n) (N.cutFront bs)
+trailing-cut minus n [] = refl
+trailing-cut minus n (b ∷ bs) = by (N.isBlank b) refl (trailing-cut minus n bs)
+  where
+    by : (t : Bool) → N.isBlank b ≡ t → R.resume (R.trailing minus n) bs ≡ R.resume (R.trailing minus n) (N.cutFront bs)
+        → R.resume (R.next (R.trailing minus n) b) bs ≡ R.resume (R.trailing minus n) (if t then N.cutFront bs else b ∷ bs)
+    by true e more = ap (λ (t : Bool). R.resume (if t then R.trailing minus n else R.invalid) bs) e ∙ more
+    by false e more = refl
 
-module _ (s : List ℕ) (e : ℕ) (f : Back s e) (h : 0 < e) where
-  up : e ≡ suc (e - 1)
-  up = omega arith
+-- Nothing follows what is no number.
+pub invalid-stays : (bs : List ℕ) → R.resume R.invalid bs ≡ R.invalid
+invalid-stays [] = refl
+invalid-stays (b ∷ bs) = invalid-stays bs
 
-  opened : N.cutFront (reverse s) ≡ N.cutFront (getD s (e - 1) 0 ∷ reverse (take (e - 1) s))
-  opened = f .same ∙ ap (λ (k : ℕ). N.cutFront (reverse (take k s))) up ∙ ap N.cutFront (last-of s (e - 1) (omega (arith, f .within)))
+-- What stands behind the blanks, from place k on, decides
+module _ (s : List ℕ) (i k : ℕ) (cut : N.cutFront (drop i s) ≡ drop k s) where
+  abbrev behind : ℕ
+  behind = getD s k 0
 
-  pub back-more : N.isBlank (getD s (e - 1) 0) ≡ true → Back s (e - 1)
-  back-more b = record { within = omega (arith, f .within); same = opened ∙ cut-blank (getD s (e - 1) 0) (reverse (take (e - 1) s)) b }
+  first : k < length s → N.isBlank behind ≡ false
+  first h = ap startsBlank (sym (cut ∙ drop-cons s k 0 h)) ∙ cut-starts (drop i s)
 
-  pub back-stop : N.isBlank (getD s (e - 1) 0) ≡ false → (e ≤ length s) × (reverse (N.cutFront (reverse s)) ≡ take e s)
-  back-stop b = (f .within, ap reverse (opened ∙ cut-other (getD s (e - 1) 0) (reverse (take (e - 1) s)) b ∙ sym (last-of s (e - 1) (omega (arith, f .within)))) ∙ reverse-reverse (take (suc (e - 1)) s) ∙ ap (λ (k : ℕ). take k s) (sym up))
+  pub trailing-end : (minus : Bool) (n : ℕ) → length s ≤ k → R.trailing minus n ≡ R.resume (R.trailing minus n) (drop i s)
+  trailing-end minus n h = sym (trailing-cut minus n (drop i s) ∙ ap (R.resume (R.trailing minus n)) (cut ∙ drop-of-length-le s h))
 
-pub back-all : (s : List ℕ) (e : ℕ) → Back s e → e ≤ 0 → (e ≤ length s) × (reverse (N.cutFront (reverse s)) ≡ take e s)
-back-all s e f h = let z : e ≡ 0 = omega arith in (f .within, ap reverse (f .same ∙ ap (λ (k : ℕ). N.cutFront (reverse (take k s))) z) ∙ ap (λ (k : ℕ). take k s) (sym z))
+  pub trailing-more : (minus : Bool) (n : ℕ) → k < length s → R.invalid ≡ R.resume (R.trailing minus n) (drop i s)
+  trailing-more minus n h = sym (
+      trailing-cut minus n (drop i s) ∙ ap (R.resume (R.trailing minus n)) (cut ∙ drop-cons s k 0 h)
+      ∙ ap (λ (t : Bool). R.resume (if t then R.trailing minus n else R.invalid) (drop (suc k) s)) (first h) ∙ invalid-stays (drop (suc k) s))
 
--- Digits
+  pub leading-end : length s ≤ k → R.leading ≡ R.resume R.leading (drop i s)
+  leading-end h = sym (leading-cut (drop i s) ∙ ap (R.resume R.leading) (cut ∙ drop-of-length-le s h))
 
-digits-more : (n : ℕ) (m : Bool) (b : ℕ) (bs : List ℕ) → N.isDigit b ≡ true → N.digits n m (b ∷ bs) ≡ N.digits (N.wrap (n * 10 + (b - 48))) m bs
-digits-more n m b bs e = ap (λ (t : Bool). if t then N.digits (N.wrap (n * 10 + (b - 48))) m bs else N.nan) e
+  leading-first : k < length s → R.resume R.leading (drop i s) ≡ R.resume (if eqb behind 45 then R.digits true 0 else R.digit false 0 behind) (drop (suc k) s)
+  leading-first h =
+      leading-cut (drop i s) ∙ ap (R.resume R.leading) (cut ∙ drop-cons s k 0 h)
+      ∙ ap (λ (t : Bool). R.resume (if t then R.leading else if eqb behind 45 then R.digits true 0 else R.digit false 0 behind) (drop (suc k) s)) (first h)
 
-digits-other : (n : ℕ) (m : Bool) (b : ℕ) (bs : List ℕ) → N.isDigit b ≡ false → N.digits n m (b ∷ bs) ≡ N.nan
-digits-other n m b bs e = ap (λ (t : Bool). if t then N.digits (N.wrap (n * 10 + (b - 48))) m bs else N.nan) e
+  pub leading-minus : k < length s → behind ≡ 45 → R.resume (R.digits true 0) (drop (k + 1) s) ≡ R.resume R.leading (drop i s)
+  leading-minus h e =
+      ap (λ (j : ℕ). R.resume (R.digits true 0) (drop j s)) (add-one k)
+      ∙ sym (leading-first h ∙ ap (λ (t : Bool). R.resume (if t then R.digits true 0 else R.digit false 0 behind) (drop (suc k) s)) (eq-eqb behind 45 e))
 
-pub record Digits (s : List ℕ) (m : Bool) (n i : ℕ) : Type 0 where
-  pub within : i ≤ length s
-  pub same : N.digits 0 m s ≡ N.digits n m (drop i s)
+  pub leading-other : k < length s → (behind ≡ 45 → ⊥) → R.resume (R.digits false 0) (drop k s) ≡ R.resume R.leading (drop i s)
+  leading-other h n =
+      ap (R.resume (R.digits false 0)) (drop-cons s k 0 h)
+      ∙ ap (λ (t : Bool). R.resume (if t then R.trailing false 0 else R.digit false 0 behind) (drop (suc k) s)) (first h)
+      ∙ sym (leading-first h ∙ ap (λ (t : Bool). R.resume (if t then R.digits true 0 else R.digit false 0 behind) (drop (suc k) s)) (ne-eqb behind 45 n))
 
-pub digits-start : (s : List ℕ) (m : Bool) → Digits s m 0 0
-digits-start s m = record { within = omega arith; same = refl }
+-- Digits: what is read from place k on, with what those before it are worth, is what is read from place i on.
+pub record Underway (s : List ℕ) (i : ℕ) (minus : Bool) (n worth k : ℕ) : Type 0 where
+  pub within : k ≤ length s
+  pub same : R.resume (R.digits minus n) (drop i s) ≡ R.resume (R.digits minus worth) (drop k s)
 
-pub digits-next : (s : List ℕ) (m : Bool) (n i b p : ℕ) → Digits s m n i → i < length s → N.isDigit (getD s i 0) ≡ true → b ≡ getD s i 0 → p ≡ N.wrap (n * 10 + (b - 48)) → Digits s m p (i + 1)
-digits-next s m n i b p f h e eb ep = record {
-  within = omega arith;
-  same = f .same ∙ ap (N.digits n m) (drop-cons s i 0 h) ∙ digits-more n m (getD s i 0) (drop (suc i) s) e
-      ∙ ap (λ (x : ℕ). N.digits x m (drop (suc i) s)) (ap (λ (x : ℕ). N.wrap (n * 10 + (x - 48))) (sym eb) ∙ sym ep) ∙ ap (λ (k : ℕ). N.digits p m (drop k s)) (sym (add-one i));
-}
+pub underway-start : (s : List ℕ) (i : ℕ) (minus : Bool) (n : ℕ) → i ≤ length s → Underway s i minus n n i
+underway-start s i minus n h = record { within = h; same = refl }
 
-pub digits-bad : (s : List ℕ) (m : Bool) (n i : ℕ) → Digits s m n i → i < length s → N.isDigit (getD s i 0) ≡ false → N.nan ≡ N.digits 0 m s
-digits-bad s m n i f h e = sym (f .same ∙ ap (N.digits n m) (drop-cons s i 0 h) ∙ digits-other n m (getD s i 0) (drop (suc i) s) e)
+module _ (s : List ℕ) (i : ℕ) (minus : Bool) (n worth k : ℕ) (u : Underway s i minus n worth k) where
+  abbrev b : ℕ
+  b = getD s k 0
 
-digits-end : (s : List ℕ) (m : Bool) (n i : ℕ) → Digits s m n i → length s ≤ i → N.digits 0 m s ≡ N.digits n m []
-digits-end s m n i f h = f .same ∙ ap (N.digits n m) (drop-of-length-le s h)
+  opened : k < length s → R.resume (R.digits minus n) (drop i s) ≡ R.resume (if N.isBlank b then R.trailing minus worth else R.digit minus worth b) (drop (suc k) s)
+  opened h = u .same ∙ ap (R.resume (R.digits minus worth)) (drop-cons s k 0 h)
 
-pub digits-minus : (s : List ℕ) (m : Bool) (n i w r : ℕ) → Digits s m n i → length s ≤ i → m ≡ true → w ≡ N.whole n → r ≡ N.neg w → r ≡ N.digits 0 m s
-digits-minus s m n i w r f h e ew er = er ∙ ap N.neg ew ∙ ap (λ (t : Bool). if t then N.neg (N.whole n) else N.whole n) (sym e) ∙ sym (digits-end s m n i f h)
+  at-other : (x : Bool) → N.isBlank b ≡ false → N.isDigit b ≡ x → k < length s
+      → R.resume (R.digits minus n) (drop i s) ≡ R.resume (if x then R.digits minus (N.wrap (worth * 10 + (b - 48))) else R.invalid) (drop (suc k) s)
+  at-other x e d h =
+      opened h ∙ ap (λ (t : Bool). R.resume (if t then R.trailing minus worth else R.digit minus worth b) (drop (suc k) s)) e
+      ∙ ap (λ (t : Bool). R.resume (if t then R.digits minus (N.wrap (worth * 10 + (b - 48))) else R.invalid) (drop (suc k) s)) d
 
-pub digits-plus : (s : List ℕ) (m : Bool) (n i w : ℕ) → Digits s m n i → length s ≤ i → m ≡ false → w ≡ N.whole n → w ≡ N.digits 0 m s
-digits-plus s m n i w f h e ew = ew ∙ ap (λ (t : Bool). if t then N.neg (N.whole n) else N.whole n) (sym e) ∙ sym (digits-end s m n i f h)
+  pub underway-digit : (c p : ℕ) → k < length s → N.isDigit b ≡ true → c ≡ b → p ≡ N.wrap (worth * 10 + (c - 48)) → Underway s i minus n p (k + 1)
+  underway-digit c p h d ec ep = record {
+    within = omega arith;
+    same = at-other true (digit-blank b d) d h
+        ∙ ap (λ (x : ℕ). R.resume (R.digits minus x) (drop (suc k) s)) (ap (λ (x : ℕ). N.wrap (worth * 10 + (x - 48))) (sym ec) ∙ sym ep)
+        ∙ ap (λ (j : ℕ). R.resume (R.digits minus p) (drop j s)) (sym (add-one k));
+  }
+
+  pub underway-blank : k < length s → N.isBlank b ≡ true → R.resume (R.trailing minus worth) (drop (k + 1) s) ≡ R.resume (R.digits minus n) (drop i s)
+  underway-blank h e =
+      ap (λ (j : ℕ). R.resume (R.trailing minus worth) (drop j s)) (add-one k)
+      ∙ sym (opened h ∙ ap (λ (t : Bool). R.resume (if t then R.trailing minus worth else R.digit minus worth b) (drop (suc k) s)) e)
+
+  pub underway-other : k < length s → N.isDigit b ≡ false → N.isBlank b ≡ false → R.invalid ≡ R.resume (R.digits minus n) (drop i s)
+  underway-other h d e = sym (at-other false e d h ∙ invalid-stays (drop (suc k) s))
+
+  pub underway-end : length s ≤ k → R.digits minus worth ≡ R.resume (R.digits minus n) (drop i s)
+  underway-end h = sym (u .same ∙ ap (R.resume (R.digits minus worth)) (drop-of-length-le s h))
 
 -- The sign
 
-pub signed-none : (s : List ℕ) → length s ≡ 0 → 0 ≡ N.signedDigits s
-signed-none [] h = refl
-signed-none (b ∷ bs) h = absurd (never h)
-  where
-    never : suc (length bs) ≡ 0 → ⊥
-    never g = omega arith
+pub signed-minus : (minus : Bool) (n w r : ℕ) → minus ≡ true → w ≡ N.whole n → r ≡ N.neg w → r ≡ R.signedWhole minus n
+signed-minus minus n w r e ew er = er ∙ ap N.neg ew ∙ ap (λ (t : Bool). R.signedWhole t n) (sym e)
 
-signed-cons : (s : List ℕ) → 0 < length s → s ≡ getD s 0 0 ∷ drop 1 s
-signed-cons s h = drop-cons s 0 0 h
+pub signed-plus : (minus : Bool) (n w : ℕ) → minus ≡ false → w ≡ N.whole n → w ≡ R.signedWhole minus n
+signed-plus minus n w e ew = ew ∙ ap (λ (t : Bool). R.signedWhole t n) (sym e)
 
-pub signed-minus-sign : (s : List ℕ) (r : ℕ) → 0 < length s → getD s 0 0 ≡ 45 → r ≡ N.digits 0 true (drop 1 s) → r ≡ N.signedDigits s
-signed-minus-sign s r h e er = er ∙ ap (λ (t : Bool). if t then N.digits 0 true (drop 1 s) else N.digits 0 false (getD s 0 0 ∷ drop 1 s)) (sym (eq-eqb (getD s 0 0) 45 e)) ∙ ap N.signedDigits (sym (signed-cons s h))
-
-pub signed-no-sign : (s : List ℕ) (r : ℕ) → 0 < length s → (getD s 0 0 ≡ 45 → ⊥) → r ≡ N.digits 0 false s → r ≡ N.signedDigits s
-signed-no-sign s r h n er =
-    er ∙ ap (N.digits 0 false) (signed-cons s h)
-    ∙ ap (λ (t : Bool). if t then N.digits 0 true (drop 1 s) else N.digits 0 false (getD s 0 0 ∷ drop 1 s)) (sym (ne-eqb (getD s 0 0) 45 n)) ∙ ap N.signedDigits (sym (signed-cons s h))
-
--- Parts of a text: what starts at a, to the end
+-- The rest of a text, lent as a part of it
 
 pub rest-of : (s : List ℕ) (a : ℕ) → take (length s - a) (drop a s) ≡ drop a s
 rest-of s a = take-all (length s - a) (drop a s) (omega (arith, length-drop a s))
-
-pub read : (s t : List ℕ) (a e r : ℕ) → t ≡ take (length s - a) (drop a s) → N.cutFront s ≡ drop a s → reverse (N.cutFront (reverse t)) ≡ take e t → r ≡ N.signedDigits (take e t) → r ≡ N.parseJsNumber s
-read s t a e r et ef eb er = er ∙ ap N.signedDigits (sym eb ∙ ap (λ (l : List ℕ). reverse (N.cutFront (reverse l))) (et ∙ rest-of s a ∙ sym ef))

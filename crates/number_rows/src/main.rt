@@ -1,8 +1,11 @@
 //! Compares crate `number` with the bench sheet's number rows and, from standard input, with the Rust's own answers; tests/number/rows.rs says how
-//! these are made. A row that differs is printed.
+//! these are made. A text is read whole, cut at each place, and byte by byte. A row that differs is printed.
+ghost use Prim.Native.Nat.{_≤_};
+ghost use lib.ListN.{length};
 use libc::STDOUT_FILENO;
 use number::JsNumber;
 use number::format::LONGEST_TEXT;
+use number::parse::Reading;
 
 mod bench;
 mod hex;
@@ -35,6 +38,27 @@ fn formats(text: &[u8], bits: u64) -> bool {
     check::same(&out[..n], text)
 }
 
+// The bits of a text that is cut at a place; of what comes before, three numbers are kept.
+fn read_cut(text: &[u8], at: usize) -> u64
+    requires { ⌜ at ≤ length (now text) ⌝ }
+{
+    let saved = Reading::start().resume(&text[..at]).save();
+    Reading::restore(saved).resume(&text[at..]).finish().bits
+}
+
+fn reads_in_parts(text: &[u8], bits: u64) -> bool {
+    let mut reading = Reading::start();
+    let mut i: usize = 0;
+    while i < text.len() {
+        if read_cut(text, i) != bits {
+            return false;
+        }
+        reading = reading.resume(&text[i..i + 1]);
+        i += 1;
+    }
+    reading.finish().bits == bits && read_cut(text, i) == bits
+}
+
 // The text is a part of a longer one, whose other bytes are digits.
 fn text_agrees(op: u8, bits: u64, count: usize, bytes: &[u8]) -> bool {
     if hex::MOST < count {
@@ -45,7 +69,7 @@ fn text_agrees(op: u8, bits: u64, count: usize, bytes: &[u8]) -> bool {
     let end = start + count;
     let part = &text[start..end];
     if op == b'p' {
-        return JsNumber::parse_js_number(part).bits == bits;
+        return JsNumber::parse_js_number(part).bits == bits && reads_in_parts(part, bits);
     }
     formats(part, bits)
 }
