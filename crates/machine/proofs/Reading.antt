@@ -81,9 +81,12 @@ blank-digit b e = ap (λ (t : Bool). t && leb b 57) (lt-leb 48 b (low (leb 9 b) 
 
 -- What is left of a text, read from each stage
 
+pub invalid-stays : (bs : List ℕ) → resume invalid bs ≡ invalid
+invalid-stays [] = refl
+invalid-stays (b ∷ bs) = invalid-stays bs
+
 from-invalid : (bs : List ℕ) → finish (resume invalid bs) ≡ N.nan
-from-invalid [] = refl
-from-invalid (b ∷ bs) = from-invalid bs
+from-invalid bs = ap finish (invalid-stays bs)
 
 from-trailing : (minus : Bool) (n : ℕ) (bs : List ℕ) → finish (resume (trailing minus n) bs) ≡ (if blank bs then signedWhole minus n else N.nan)
 from-trailing minus n [] = refl

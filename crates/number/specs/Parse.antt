@@ -12,7 +12,7 @@ use borrow.Author.Tests.{le-leb, lt-leb, eq-eqb, ne-eqb, leb-true}
 use Rattle.machine.specs.Basic.{if_then_else_}
 use Rattle.machine.specs.Number as N
 use Rattle.machine.specs.Reading as R
-use Rattle.machine.proofs.Reading.{blank-digit}
+use Rattle.machine.proofs.Reading.{blank-digit, invalid-stays}
 use Rattle.number.specs.declared.parse.Reading.{Reading}
 use Rattle.number.specs.declared.parse.Reading.the-variants.{Leading, Digits, Trailing, Invalid}
 use Rattle.number.specs.declared.parse.Saved.{Saved}
@@ -68,26 +68,17 @@ savedOf p = saved (p .stage) (p .worth) (p .minus)
 
 -- What is restored, by its stage
 
-pub restore-leading : (p : R.Saved) → p .stage ≡ 0 → R.leading ≡ R.restore p
-restore-leading p e = ap (λ (k : ℕ). R.restore (saved k (p .worth) (p .minus))) (sym e)
+pub restore-stage : (p : R.Saved) (k : ℕ) → p .stage ≡ k → R.restore (saved k (p .worth) (p .minus)) ≡ R.restore p
+restore-stage p k e = ap (λ (j : ℕ). R.restore (saved j (p .worth) (p .minus))) (sym e)
 
-pub restore-digits : (p : R.Saved) → p .stage ≡ 1 → R.digits (eqb (p .minus) 1) (p .worth) ≡ R.restore p
-restore-digits p e = ap (λ (k : ℕ). R.restore (saved k (p .worth) (p .minus))) (sym e)
+abbrev byTests : R.Saved → Bool → Bool → Bool → R.Reading
+byTests p x y z = if x then R.leading else if y then R.digits (eqb (p .minus) 1) (p .worth) else if z then R.trailing (eqb (p .minus) 1) (p .worth) else R.invalid
 
-pub restore-trailing : (p : R.Saved) → p .stage ≡ 2 → R.trailing (eqb (p .minus) 1) (p .worth) ≡ R.restore p
-restore-trailing p e = ap (λ (k : ℕ). R.restore (saved k (p .worth) (p .minus))) (sym e)
-
-pub restore-invalid : (p : R.Saved) → (p .stage ≡ 0 → ⊥) → (p .stage ≡ 1 → ⊥) → (p .stage ≡ 2 → ⊥) → R.invalid ≡ R.restore p
-restore-invalid p f g h = sym (
-    ap (λ (t : Bool). if t then R.leading else if eqb (p .stage) 1 then d else if eqb (p .stage) 2 then t₂ else R.invalid) (ne-eqb (p .stage) 0 f)
-    ∙ ap (λ (t : Bool). if t then d else if eqb (p .stage) 2 then t₂ else R.invalid) (ne-eqb (p .stage) 1 g)
-    ∙ ap (λ (t : Bool). if t then t₂ else R.invalid) (ne-eqb (p .stage) 2 h))
-  where
-    d : R.Reading
-    d = R.digits (eqb (p .minus) 1) (p .worth)
-
-    t₂ : R.Reading
-    t₂ = R.trailing (eqb (p .minus) 1) (p .worth)
+pub restore-other : (p : R.Saved) → (p .stage ≡ 0 → ⊥) → (p .stage ≡ 1 → ⊥) → (p .stage ≡ 2 → ⊥) → R.invalid ≡ R.restore p
+restore-other p f g h = sym (
+    ap (λ (t : Bool). byTests p t (eqb (p .stage) 1) (eqb (p .stage) 2)) (ne-eqb (p .stage) 0 f)
+    ∙ ap (λ (t : Bool). byTests p false t (eqb (p .stage) 2)) (ne-eqb (p .stage) 1 g)
+    ∙ ap (byTests p false false) (ne-eqb (p .stage) 2 h))
 
 -- Blanks
 
@@ -130,52 +121,53 @@ cut-starts (b ∷ bs) = by (N.isBlank b) refl (cut-starts bs)
     by true e more = more
     by false e more = e
 
--- Leading and trailing blanks leave a reading as it is.
-leading-cut : (bs : List ℕ) → R.resume R.leading bs ≡ R.resume R.leading (N.cutFront bs)
-leading-cut [] = refl
-leading-cut (b ∷ bs) = by (N.isBlank b) refl (leading-cut bs)
+-- A reading that a blank leaves as it is: leading, trailing.
+abbrev Stays : R.Reading → Type 0
+Stays r = (b : ℕ) → N.isBlank b ≡ true → R.next r b ≡ r
+
+leading-stays : Stays R.leading
+leading-stays b e = ap (λ (t : Bool). if t then R.leading else if eqb b 45 then R.digits true 0 else R.digit false 0 b) e
+
+trailing-stays : (minus : Bool) (n : ℕ) → Stays (R.trailing minus n)
+trailing-stays minus n b e = ap (λ (t : Bool). if t then R.trailing minus n else R.invalid) e
+
+resume-cut : (r : R.Reading) → Stays r → (bs : List ℕ) → R.resume r bs ≡ R.resume r (N.cutFront bs)
+resume-cut r stays [] = refl
+resume-cut r stays (b ∷ bs) = by (N.isBlank b) refl (resume-cut r stays bs)
   where
-    by : (t : Bool) → N.isBlank b ≡ t → R.resume R.leading bs ≡ R.resume R.leading (N.cutFront bs) → R.resume (R.next R.leading b) bs ≡ R.resume R.leading (if t then N.cutFront bs else b ∷ bs)
-    by true e more = ap (λ (t : Bool). R.resume (if t then R.leading else if eqb b 45 then R.digits true 0 else R.digit false 0 b) bs) e ∙ more
+    by : (t : Bool) → N.isBlank b ≡ t → R.resume r bs ≡ R.resume r (N.cutFront bs) → R.resume (R.next r b) bs ≡ R.resume r (if t then N.cutFront bs else b ∷ bs)
+    by true e more = ap (λ (x : R.Reading). R.resume x bs) (stays b e) ∙ more
     by false e more = refl
 
-trailing-cut : (minus : Bool) (n : ℕ) (bs : List ℕ) → R.resume (R.trailing minus n) bs ≡ R.resume (R.trailing minus n) (N.cutFront bs)
-trailing-cut minus n [] = refl
-trailing-cut minus n (b ∷ bs) = by (N.isBlank b) refl (trailing-cut minus n bs)
-  where
-    by : (t : Bool) → N.isBlank b ≡ t → R.resume (R.trailing minus n) bs ≡ R.resume (R.trailing minus n) (N.cutFront bs)
-        → R.resume (R.next (R.trailing minus n) b) bs ≡ R.resume (R.trailing minus n) (if t then N.cutFront bs else b ∷ bs)
-    by true e more = ap (λ (t : Bool). R.resume (if t then R.trailing minus n else R.invalid) bs) e ∙ more
-    by false e more = refl
-
--- Nothing follows what is no number.
-pub invalid-stays : (bs : List ℕ) → R.resume R.invalid bs ≡ R.invalid
-invalid-stays [] = refl
-invalid-stays (b ∷ bs) = invalid-stays bs
-
--- What stands behind the blanks, from place k on, decides
+-- Blanks stand from place i to k: what stands at k decides.
 module _ (s : List ℕ) (i k : ℕ) (cut : N.cutFront (drop i s) ≡ drop k s) where
   abbrev behind : ℕ
   behind = getD s k 0
 
-  first : k < length s → N.isBlank behind ≡ false
-  first h = ap startsBlank (sym (cut ∙ drop-cons s k 0 h)) ∙ cut-starts (drop i s)
+  no-blank : k < length s → N.isBlank behind ≡ false
+  no-blank h = ap startsBlank (sym (cut ∙ drop-cons s k 0 h)) ∙ cut-starts (drop i s)
+
+  at-end : (r : R.Reading) → Stays r → length s ≤ k → r ≡ R.resume r (drop i s)
+  at-end r stays h = sym (resume-cut r stays (drop i s) ∙ ap (R.resume r) (cut ∙ drop-of-length-le s h))
+
+  at-byte : (r : R.Reading) → Stays r → k < length s → R.resume r (drop i s) ≡ R.resume (R.next r behind) (drop (suc k) s)
+  at-byte r stays h = resume-cut r stays (drop i s) ∙ ap (R.resume r) (cut ∙ drop-cons s k 0 h)
 
   pub trailing-end : (minus : Bool) (n : ℕ) → length s ≤ k → R.trailing minus n ≡ R.resume (R.trailing minus n) (drop i s)
-  trailing-end minus n h = sym (trailing-cut minus n (drop i s) ∙ ap (R.resume (R.trailing minus n)) (cut ∙ drop-of-length-le s h))
+  trailing-end minus n h = at-end (R.trailing minus n) (trailing-stays minus n) h
 
   pub trailing-more : (minus : Bool) (n : ℕ) → k < length s → R.invalid ≡ R.resume (R.trailing minus n) (drop i s)
   trailing-more minus n h = sym (
-      trailing-cut minus n (drop i s) ∙ ap (R.resume (R.trailing minus n)) (cut ∙ drop-cons s k 0 h)
-      ∙ ap (λ (t : Bool). R.resume (if t then R.trailing minus n else R.invalid) (drop (suc k) s)) (first h) ∙ invalid-stays (drop (suc k) s))
+      at-byte (R.trailing minus n) (trailing-stays minus n) h
+      ∙ ap (λ (t : Bool). R.resume (if t then R.trailing minus n else R.invalid) (drop (suc k) s)) (no-blank h) ∙ invalid-stays (drop (suc k) s))
 
   pub leading-end : length s ≤ k → R.leading ≡ R.resume R.leading (drop i s)
-  leading-end h = sym (leading-cut (drop i s) ∙ ap (R.resume R.leading) (cut ∙ drop-of-length-le s h))
+  leading-end h = at-end R.leading leading-stays h
 
   leading-first : k < length s → R.resume R.leading (drop i s) ≡ R.resume (if eqb behind 45 then R.digits true 0 else R.digit false 0 behind) (drop (suc k) s)
   leading-first h =
-      leading-cut (drop i s) ∙ ap (R.resume R.leading) (cut ∙ drop-cons s k 0 h)
-      ∙ ap (λ (t : Bool). R.resume (if t then R.leading else if eqb behind 45 then R.digits true 0 else R.digit false 0 behind) (drop (suc k) s)) (first h)
+      at-byte R.leading leading-stays h
+      ∙ ap (λ (t : Bool). R.resume (if t then R.leading else if eqb behind 45 then R.digits true 0 else R.digit false 0 behind) (drop (suc k) s)) (no-blank h)
 
   pub leading-minus : k < length s → behind ≡ 45 → R.resume (R.digits true 0) (drop (k + 1) s) ≡ R.resume R.leading (drop i s)
   leading-minus h e =
@@ -185,7 +177,7 @@ module _ (s : List ℕ) (i k : ℕ) (cut : N.cutFront (drop i s) ≡ drop k s) w
   pub leading-other : k < length s → (behind ≡ 45 → ⊥) → R.resume (R.digits false 0) (drop k s) ≡ R.resume R.leading (drop i s)
   leading-other h n =
       ap (R.resume (R.digits false 0)) (drop-cons s k 0 h)
-      ∙ ap (λ (t : Bool). R.resume (if t then R.trailing false 0 else R.digit false 0 behind) (drop (suc k) s)) (first h)
+      ∙ ap (λ (t : Bool). R.resume (if t then R.trailing false 0 else R.digit false 0 behind) (drop (suc k) s)) (no-blank h)
       ∙ sym (leading-first h ∙ ap (λ (t : Bool). R.resume (if t then R.digits true 0 else R.digit false 0 behind) (drop (suc k) s)) (ne-eqb behind 45 n))
 
 -- Digits: what is read from place k on, with what those before it are worth, is what is read from place i on.

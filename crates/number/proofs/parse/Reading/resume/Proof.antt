@@ -1,6 +1,6 @@
 use borrow.Author.Needs.{needs}
 use mathlib.Core.Path.{sym}
-use Rattle.number.specs.Parse.{invalid-stays}
+use Rattle.machine.proofs.Reading.{invalid-stays}
 use Rattle.number.proofs.parse.Reading.resume.Statement.{statement}
 use Rattle.number.proofs.parse.Reading.resume.Tie as tie
 
