@@ -230,7 +230,7 @@ small bs = small-save (resume start bs) (worth-resume start bs tt)
 pub small-parts : (l : List (List ℕ)) → Small (inParts (save start) l)
 small-parts l = subst Small (sym (parts-resume start l)) (small (joined l))
 
--- The rows of reading 7: computed, the parts as they come.
+-- The texts of decision 89, whole and cut, by computation.
 abbrev read : List (List ℕ) → ℕ
 read l = finish (restore (inParts (save start) l))
 

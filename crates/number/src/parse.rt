@@ -79,7 +79,7 @@ pub struct Saved {
     pub worth: u64,
 }
 
-// Each of these three reads from place i to the end, from one stage on. A stage has its own loop, so that a byte is tested for what may stand there only.
+// The next three read the rest of the bytes, each from one stage on, so that a byte is tested for what may stand there only.
 pub(crate) fn trailing(s: &[u8], i: usize, minus: bool, n: u64) -> Reading
     requires { ⌜ i ≤ length (now s) ⌝ }
     ensures { λ r. ⌜ readingOf r ≡ R.resume (R.trailing minus n) (drop i (now (s .entry))) ⌝ }
