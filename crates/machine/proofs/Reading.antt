@@ -119,7 +119,7 @@ from-digits minus n (b ∷ bs) =
     by true d behind more = behind ∙ digits-blank minus n b (cutBack bs) (d refl) (blank bs)
     by false d behind more = more
 
--- The first byte that is no blank: a sign, or a digit as it would stand behind one.
+-- The first byte that is no blank is `-`, or it is read where a digit may stand.
 from-first : (b : ℕ) (bs : List ℕ) → N.isBlank b ≡ false
     → finish (resume (if eqb b 45 then digits true 0 else R.digit false 0 b) bs) ≡ N.signedDigits (cutBack (b ∷ bs))
 from-first b bs e =
