@@ -76,8 +76,10 @@ pub record Starred : Type 0 where
   pub readWraps : N.parseJsNumber (ascii "4294967297") ≡ N.one
   pub readMinus : N.parseJsNumber (ascii "-") ≡ 0
   pub readPlus : N.parseJsNumber (ascii "+5") ≡ N.nan
-  pub writeHalf : N.formatJsNumber (minus (2 ^ 31)) ≡ ascii "-1.5"
-  pub writeRaw : N.formatJsNumber 1 ≡ ascii "0."
+  -- as change 4 amends the row
+  pub writeHalf : N.formatJsNumber (minus (2 ^ 31)) ≡ ascii "-0.5"
+  pub writeRaw : N.formatJsNumber 1 ≡ ascii "0"
+  pub writeMinusRaw : N.formatJsNumber (minus 1) ≡ ascii "0"
   pub shift : N.shiftLeft N.one (33 * N.one) ≡ 2 * N.one
   pub arrayFirst : property arrayMade 0 (ascii "0") ≡ Value.number 5
   pub arraySecond : property arrayMade 0 (ascii "1") ≡ Value.undefined
@@ -100,6 +102,7 @@ starred = record {
   readPlus = refl;
   writeHalf = refl;
   writeRaw = refl;
+  writeMinusRaw = refl;
   shift = refl;
   arrayFirst = refl;
   arraySecond = refl;
@@ -161,6 +164,42 @@ pub record Twelve : Type 0 where
 pub twelve : Twelve
 unfolding stepLimit
 twelve = record { last = refl; refused = refl; cut = refl }
+
+-- Reading 8: six digits are cut off the magnitude, and zero is judged after the cut. So raw 1 and raw -1 name element 0, and one half names no element.
+abbrev element : ℕ → State
+element n = exec (instruction 7) (setOperands (Value.number n ∷ arrayMade .operands) arrayMade) .state
+
+pub record Fractions : Type 0 where
+  pub below : N.formatJsNumber 4294 ≡ ascii "0"
+  pub first : N.formatJsNumber 4295 ≡ ascii "0.000001"
+  pub firstBelow : N.formatJsNumber (minus 4295) ≡ ascii "-0.000001"
+  pub minusOne : N.formatJsNumber (minus N.one) ≡ ascii "-1"
+  pub minusOneHalf : N.formatJsNumber (minus (N.one + 2 ^ 31)) ≡ ascii "-1.5"
+  pub oneAndRaw : N.formatJsNumber (N.one + 1) ≡ ascii "1"
+  pub least : N.formatJsNumber (2 ^ 63) ≡ ascii "-2147483648"
+  pub most : N.formatJsNumber (2 ^ 63 - 2) ≡ ascii "2147483647.999999"
+  pub notANumber : N.formatJsNumber N.nan ≡ ascii "NaN"
+  pub rawElement : element 1 .operands ≡ Value.number 5 ∷ []
+  pub minusRawElement : element (minus 1) .operands ≡ Value.number 5 ∷ []
+  pub halfElement : element (2 ^ 31) .operands ≡ Value.undefined ∷ []
+  pub rawStretches : lengthAfter (N.formatJsNumber (5 * N.one + 1)) ≡ Value.number (6 * N.one)
+
+pub fractions : Fractions
+fractions = record {
+  below = refl;
+  first = refl;
+  firstBelow = refl;
+  minusOne = refl;
+  minusOneHalf = refl;
+  oneAndRaw = refl;
+  least = refl;
+  most = refl;
+  notANumber = refl;
+  rawElement = refl;
+  minusRawElement = refl;
+  halfElement = refl;
+  rawStretches = refl;
+}
 
 -- A step that goes on and leaves the state as it was is made until the limit.
 pub record Limited (r : Ran) (n : ℕ) : Type 0 where

@@ -1,6 +1,7 @@
 pub mod Basic
 pub mod Ascii
 pub mod Number
+pub mod NumberText
 pub mod Reading
 pub mod Value
 pub mod Image

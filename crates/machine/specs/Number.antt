@@ -126,7 +126,7 @@ signedDigits (b ∷ bs) = if eqb b 45 then digits 0 true bs else digits 0 false 
 abbrev pub parseJsNumber : List ℕ → ℕ
 parseJsNumber bs = signedDigits (trim bs)
 
--- Number to text: `format_js_number`
+-- Number to text: `format_js_number`, as change 4 of document 02 has it
 
 -- The decimal digits of a natural number in front of a text, no more than k of them.
 abbrev pub decimalOnto : ℕ → ℕ → List ℕ → List ℕ
@@ -145,15 +145,32 @@ abbrev pub cutZeros : List ℕ → List ℕ
 cutZeros [] = []
 cutZeros (b ∷ bs) = if eqb b 48 then cutZeros bs else b ∷ bs
 
+-- The fraction of a magnitude in millionths, cut: what the six digits behind the point are worth.
+abbrev pub millionths : ℕ → ℕ
+millionths m = m % 2 ^ 32 * 1000000 / 2 ^ 32
+
+-- Six digits, trailing zeros removed.
 abbrev pub fraction : ℕ → List ℕ
-fraction f = reverse (cutZeros (reverse (padded 6 (f * 1000000 / 2 ^ 32) [])))
+fraction m = reverse (cutZeros (reverse (padded 6 (millionths m) [])))
 
--- Floor part, point, six digits cut, trailing zeros removed; a negative floor prints its magnitude after `-`. A whole number has no point.
-abbrev pub floorText : ℕ → List ℕ
-floorText a = if isNegative a then 45 ∷ decimal (2 ^ 32 - floor a) else decimal (floor a)
+-- The point goes where no digit follows it.
+abbrev pub pointed : List ℕ → List ℕ
+pointed [] = []
+pointed (d ∷ ds) = 46 ∷ d ∷ ds
 
+abbrev pub magnitudeText : ℕ → List ℕ
+magnitudeText m = decimal (m / 2 ^ 32) ++ pointed (fraction m)
+
+-- Whole part and digits are all zero.
+abbrev pub allZero : ℕ → Bool
+allZero m = eqb (m / 2 ^ 32) 0 && eqb (millionths m) 0
+
+abbrev pub minusSign : Bool → List ℕ
+minusSign true = 45 ∷ []
+minusSign false = []
+
+-- `NaN`; else a minus for a negative number, but not where all is zero, and its magnitude.
 abbrev pub formatJsNumber : ℕ → List ℕ
 formatJsNumber a =
     if eqb a nan then 78 ∷ 97 ∷ 78 ∷ [] else
-    if eqb (a % 2 ^ 32) 0 then floorText a else
-    floorText a ++ 46 ∷ fraction (a % 2 ^ 32)
+    minusSign (isNegative a && not (allZero (magnitude a))) ++ magnitudeText (magnitude a)

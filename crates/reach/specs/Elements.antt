@@ -3,19 +3,20 @@ use Prim.Native.Nat.{ℕ, zero, suc, _+_, _-_, _*_, _/_, _%_, _^_, _≤_, _<_}
 use native.Mathlib.Omega.{arith}
 use mathlib.Core.Bool.{Bool, true, false, _&&_}
 use mathlib.Core.Option.{none, some}
-use mathlib.Core.List.{List, [], _∷_, _++_, append-nil}
+use mathlib.Core.List.{List, [], _∷_, _++_}
 use mathlib.Core.Path.{_≡_, refl, sym, ap, subst, _∙_}
 use lib.Dec.{eqb, ltb}
 use lib.ListN.{length, getD, take, drop, length-append, drop-of-length-le, getElem?}
 use lib.Seq.{take-at, drop-cons}
-use borrow.Author.Tests.{le-leb, lt-leb, lt-ltb, ltb-true, ltb-false, eq-eqb, eqb-true}
+use borrow.Author.Tests.{le-leb, lt-ltb, ltb-true, ltb-false, eq-eqb, eqb-true}
 use Rattle.machine.specs.Basic.{if_then_else_, same}
 use Rattle.machine.specs.Value as M
 use Rattle.machine.specs.Act as A
 use Rattle.machine.specs.Number as N
 use Rattle.machine.specs.Instruction as I
 use Rattle.machine.specs.Convert.{toJsString, lengthKey, worth, digitsKey, arrayKey, lengthFloor}
-use Rattle.number.specs.Format.{longestText, Formats, decimal-last, decimal-more, text-whole, text-length}
+use Rattle.machine.proofs.NumberText.{decimal-last, decimal-more, text-length, whole-text}
+use Rattle.number.specs.Format.{longestText, Formats}
 use Rattle.value.specs.Lists.{bytesOf, rowOf, row-length}
 use Rattle.value.specs.Words.{valueOf, valueAt, decodeOf, Holds}
 use Rattle.value.specs.declared.Value.{Value}
@@ -159,7 +160,7 @@ module _ (z : Sizes) {m : ℕ} {text : List ℕ} {heap : List ℕ} {d : Depths} 
       → ((code : List ℕ) → n ≤ length code → Quickly (Sure (Distinct z heap m text) (Objects n code m text z heap)) I.LoadIndex d w (Went e) w′) × Stays d w (Went e) w′
   index-loads n = (loads n, stays-went (kept-within end (below-frames (h .apart) (omega (arith, good .operands)))))
 
--- A number's text that is digits, and what an array takes it for
+-- A number whose text is digits, and what an array takes it for
 abbrev pub IndexTold : ℕ → Key → Type 0
 IndexTold v (Index e) = (N.decimal e ≡ N.formatJsNumber v) × (e < 2 ^ 32)
 IndexTold v Name = Unit {0}
@@ -214,10 +215,7 @@ decimal-key n h =
     key-of (N.decimal n) n (d .some-are) (d .same ∙ ap (λ (x : Bool). if x then some n else none) (lt-ltb n (2 ^ 64) h))
 
 pub whole-index : (v : ℕ) → v < 2 ^ 63 → v % 2 ^ 32 ≡ 0 → IndexIs v (Index (v / 2 ^ 32))
-whole-index v h e =
-    let f : N.decimal (N.floor v) ≡ N.floorText v = sym (ap (λ (b : Bool). if b then 45 ∷ N.decimal (2 ^ 32 - N.floor v) else N.decimal (N.floor v)) (lt-leb (2 ^ 63) v h)) in
-    let t : N.decimal (N.floor v) ≡ N.formatJsNumber v = text-whole v [] (N.decimal (N.floor v)) (λ q. omega arith) e refl (f ∙ sym (append-nil (N.floorText v))) in
-    record { told = (t, omega arith) }
+whole-index v h e = record { told = (sym (whole-text v h e), omega arith) }
 
 -- the digits of n: those from place i of s on stand there, and those of m are to come
 pub record Reading (s : List ℕ) (n i m : ℕ) : Type 0 where

@@ -60,7 +60,7 @@ fn guess_by(row: usize, v: u64) -> usize {
     wrapping_sub_usize(row, (v >> 32) as usize) & 0xffff
 }
 
-// The number whose digits are all of a number's text. One with a sign or a fraction has none.
+// The number whose digits are all of a number's text, where the number is whole. Of another it is not told, though raw 1 and raw -1 have the text `0`.
 fn index_of(v: u64) -> Key
     ensures { λ r. ⌜ IndexIs v r ⌝ }
 {
@@ -100,7 +100,7 @@ fn are_digits(s: &[u8], n: u64) -> bool
     wide(s[0]) == 48 + m
 }
 
-// Is a number's text the key of the row at place k? Nothing is written for it; but where the text is more than digits, it is not told.
+// Is a number's text the key of the row at place k? Nothing is written for it; but where the number is not whole, it is not told.
 fn row_is_element(text: &[u8], m: usize, heap: &[u64], k: usize, id: u64, v: u64) -> bool
     requires { ⌜ (m ≤ length (now text)) × (k + 5 < length (now heap)) ⌝ }
     ensures { λ r. ⌜ (r ≡ true → RowIs (now (text .entry)) m (now (heap .entry)) k id (formatJsNumber v)) ⌝ }

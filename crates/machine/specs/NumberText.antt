@@ -1,0 +1,21 @@
+-- Change 4 of document 02: the text that 000 gives a number, and on which numbers `formatJsNumber` gives another. Assumes nothing.
+use mathlib.Core.Bool.{Bool, not, _&&_, _||_}
+use mathlib.Core.List.{List, [], _∷_, _++_}
+use Prim.Native.Nat.{ℕ, _-_, _%_, _^_}
+use lib.Dec.{eqb}
+use Rattle.machine.specs.Basic.{if_then_else_}
+use Rattle.machine.specs.Number as N
+
+-- `format_js_number` of 000: the floor, after a minus its magnitude; then, unless the number is whole, a point and the digits above the floor.
+abbrev pub floorText : ℕ → List ℕ
+floorText a = if N.isNegative a then 45 ∷ N.decimal (2 ^ 32 - N.floor a) else N.decimal (N.floor a)
+
+abbrev pub originalText : ℕ → List ℕ
+originalText a =
+    if eqb a N.nan then 78 ∷ 97 ∷ 78 ∷ [] else
+    if eqb (a % 2 ^ 32) 0 then floorText a else
+    floorText a ++ 46 ∷ N.fraction a
+
+-- Reading 9: negative fractions, and points that no digit would follow.
+abbrev pub amended : ℕ → Bool
+amended a = not (eqb a N.nan) && not (eqb (a % 2 ^ 32) 0) && (N.isNegative a || eqb (N.millionths a) 0)
