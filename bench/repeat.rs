@@ -4,7 +4,7 @@
 
 use crate::plain::js_vm::JsVm;
 use crate::limits;
-use crate::runs::{Both, Coverage};
+use crate::runs::{Judges, Coverage};
 use crate::sample::{Image, Sample};
 use std::io::Read;
 
@@ -15,7 +15,7 @@ pub fn main() {
     let count: usize = std::str::from_utf8(&input[..end]).unwrap().parse().expect("a count");
     let image = Image::read(&input[end + 1..]).expect("an image");
     if std::env::args().nth(1).as_deref() == Some("--steps") {
-        let told = Both::new().run(&Sample::run_one("bench", image), 0, limits::STEPS, &mut Coverage::new());
+        let told = Judges::new().run(&Sample::run_one("bench", image), 0, limits::STEPS, &mut Coverage::new());
         let told = told.expect("a run that ends");
         println!("end {} steps {}", told.end[0], told.steps);
         return;

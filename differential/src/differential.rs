@@ -104,6 +104,12 @@ fn missing(seen: &Seen, written: &writing::Seen, least: usize) -> Vec<String> {
     for end in (11..=19).chain(21..=28).chain([0]) {
         all.push((format!("a run's end {}", end), seen.code.ends[end]));
     }
+    // change 4: number texts that 000 writes otherwise, in each place where a text is made; and runs that make none, which 000 judges unchanged
+    for b in [7, 8, 10, 50, 74] {
+        all.push((format!("opcode {} with a number's text as change 4 has it", b), seen.code.amending[b]));
+    }
+    all.push(("a text call of such a number".into(), seen.code.amended_calls));
+    all.push(("a run compared with 000 unchanged".into(), seen.code.unchanged));
     let questions: [&[u64]; 10] =
         [&[], &[1, 2, 3, 4, 5, 6, 7, 8, 9], &[10, 23, 32], &[26, 27, 29, 30], &[26, 27, 29], &[29], &[10, 11], &[30, 31], &[29, 31], &[31]];
     for (call, numbers) in questions.iter().enumerate() {

@@ -1,14 +1,14 @@
 //! What every call is to answer and to leave: the Rust of documents 000 to 002, and document 01's rules for what it adds to them.
 
-use crate::plain::engine::{given, value};
+use crate::amended::engine::value;
 use crate::limits;
-use crate::runs::{Both, Coverage};
+use crate::runs::{text, Coverage, Judges};
 use crate::sample::{Given, Image, Plain, Sample};
 
 use super::calls::{Answer, Call, Words};
 
 pub struct Reference {
-    both: Both,
+    judges: Judges,
     /// The images that were loaded, and their bytes one after the other.
     loaded: Sample,
     code: Vec<u8>,
@@ -16,11 +16,11 @@ pub struct Reference {
 
 impl Reference {
     pub fn new() -> Reference {
-        Reference { both: Both::new(), loaded: Sample { kind: "", images: Vec::new(), actions: Vec::new() }, code: Vec::new() }
+        Reference { judges: Judges::new(), loaded: Sample { kind: "", images: Vec::new(), actions: Vec::new() }, code: Vec::new() }
     }
 
     pub fn state(&self) -> Vec<u8> {
-        self.both.state()
+        self.judges.state()
     }
 
     pub fn code(&self) -> &[u8] {
@@ -28,7 +28,7 @@ impl Reference {
     }
 
     pub fn texts(&self) -> &[u8] {
-        self.both.texts()
+        self.judges.texts()
     }
 
     pub fn images(&self) -> usize {
@@ -59,22 +59,21 @@ impl Reference {
             Call::ReadGlobal(name) => {
                 ask(name.is_ascii(), 29)?;
                 let mut out = Vec::new();
-                value(&mut out, &self.both.engine.read_global(name));
+                value(&mut out, &self.judges.engine.read_global(name));
                 Ok(Answer::Value(out))
             }
             Call::Run(i) => self.run(*i, seen),
             Call::Text(w, room) => {
-                let text = given(&self.value(*w)?).to_js_string();
-                buffered(text.into_bytes(), *room)
+                buffered(text(&self.value(*w)?, seen).into_bytes(), *room)
             }
             Call::TextBytes(bytes, room) => {
                 ask(bytes.is_ascii(), 29)?;
                 buffered(bytes.clone(), *room)
             }
             Call::Drain(room) => {
-                ask(self.both.engine.output_bytes() <= *room, 31)?;
+                ask(self.judges.engine.output_bytes() <= *room, 31)?;
                 // without the count in front
-                Ok(Answer::Bytes(self.both.drain().split_off(2)))
+                Ok(Answer::Bytes(self.judges.drain().split_off(2)))
             }
         }
     }
@@ -92,14 +91,14 @@ impl Reference {
         ask(image < self.images() as u64, 10)?;
         let i = image as usize;
         ask(1 <= template && template < self.loaded.images[i].templates.len() as u64, 32)?;
-        ask(self.both.engine.vm.function_arena.len() < limits::FUNCTIONS, 23)?;
-        Ok(Answer::Number(self.both.register(&self.loaded, i, template as usize) as u64))
+        ask(self.judges.engine.vm.function_arena.len() < limits::FUNCTIONS, 23)?;
+        Ok(Answer::Number(self.judges.register(&self.loaded, i, template as usize) as u64))
     }
 
     fn run(&mut self, image: u64, seen: &mut Coverage) -> Result<Answer, u64> {
         ask(image < self.images() as u64, 10)?;
-        ask(self.both.engine.vm.call_stack.len() < limits::FRAMES, 11)?;
-        let told = self.both.run(&self.loaded, image as usize, limits::STEPS, seen).expect("a run that ends");
+        ask(self.judges.engine.vm.call_stack.len() < limits::FRAMES, 11)?;
+        let told = self.judges.run(&self.loaded, image as usize, limits::STEPS, seen).expect("a run that ends");
         Ok(Answer::Ran(told.end, told.steps as u64))
     }
 
@@ -118,13 +117,13 @@ impl Reference {
     }
 
     fn set(&mut self, name: &[u8], g: &Given) -> Result<Answer, u64> {
-        let globals = &self.both.engine.vm.globals;
+        let globals = &self.judges.engine.vm.globals;
         let known = globals.contains_key(std::str::from_utf8(name).unwrap());
         ask(known || globals.len() < limits::GLOBALS, 26)?;
         let given = if let Given::Fresh(bytes) = g { bytes.len() } else { 0 };
         let added = given + if known { 0 } else { name.len() };
         ask(self.texts().len() + added <= limits::TEXT_BYTES, 27)?;
-        self.both.set_global(name, g);
+        self.judges.set_global(name, g);
         Ok(Answer::Done)
     }
 }

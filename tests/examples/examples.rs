@@ -2,15 +2,15 @@
 //! standard output, or with `--into FOLDER` to FOLDER/NAME.out.
 
 use crate::limits;
-use crate::runs::{Both, Coverage};
+use crate::runs::{Judges, Coverage};
 use crate::sample::{Image, Sample};
 use std::path::Path;
 
 fn answer(bytes: &[u8]) -> Vec<u8> {
     let sample = Sample::run_one("example", Image::read(bytes).expect("an image"));
-    let mut both = Both::new();
-    let told = both.run(&sample, 0, limits::STEPS, &mut Coverage::new()).expect("a run that ends");
-    let vm = &both.engine.vm;
+    let mut judges = Judges::new();
+    let told = judges.run(&sample, 0, limits::STEPS, &mut Coverage::new()).expect("a run that ends");
+    let vm = &judges.engine.vm;
     let (operands, frames) = (vm.stack.len(), vm.call_stack.len());
     let mut out = format!(
         "end {} steps {} operands {} frames {} handlers {} value {}",

@@ -1,10 +1,11 @@
-// Prints the rows of crates/number_rows/stdin: answers of documents 000 and 002, which are compiled in unchanged.
+// Prints the rows of crates/number_rows/stdin: answers of documents 000 and 002, which are compiled in unchanged; of the texts of numbers, those of 000 with change 4.
 // Arithmetic runs as bytecode through run_chunk; texts go through to_number and to_js_string.
 //
 // A row has 87 bytes: operation, blank, number (16 hex digits), blank, count of bytes (2), blank, 32 bytes (64, `.` past the count), newline.
 // The number is the result and the bytes the two operands, big-endian; of `p` the bytes are the text read; of `f` the number is the operand and
 // the bytes the text written.
 extern crate alloc;
+mod amended;
 mod js_compiler;
 mod js_lexer;
 mod js_vm;
@@ -72,8 +73,33 @@ fn text(s: &str) {
     row('p', JsValue::String(s.to_string()).to_number(), s.as_bytes());
 }
 
+fn written(n: i64) -> String {
+    amended::JsValue::Number(n).to_js_string()
+}
+
 fn number(n: i64) {
-    row('f', n, JsValue::Number(n).to_js_string().as_bytes());
+    row('f', n, written(n).as_bytes());
+}
+
+// Number::toString of ECMA-262 of the same number, where a double has it; from a millionth on it has no exponent, and Rust writes the same digits.
+fn ecma(n: i64) -> String {
+    format!("{}", n as f64 / JS_ONE as f64)
+}
+
+// docs/DIFFERENCES.md: where the text is that of ECMA-262.
+fn as_ecma(random: &mut Random) {
+    for _ in 0..100_000 {
+        // whole 64ths, of any size
+        let n = random.number() >> 26 << 26;
+        assert_eq!(written(n), ecma(n));
+        // below 256, nothing else
+        let n = random.number() % (256 * JS_ONE);
+        assert_eq!(written(n) == ecma(n), n % (JS_ONE / 64) == 0, "raw {}", n);
+    }
+    // The smallest other: a fraction whose digits behind the sixth are the least that there are, where the doubles lie twice as far apart.
+    let n = 256 * JS_ONE + 12_738_873;
+    assert_eq!((written(n), ecma(n)), ("256.002966".into(), "256.002966".into()));
+    assert_ne!(written(n - JS_ONE), ecma(n - JS_ONE));
 }
 
 // xorshift64, a fixed seed
@@ -148,6 +174,22 @@ fn main() {
         text(&format!("{}{}", if n % 3 == 0 { " " } else { "" }, n));
         number(n);
     }
+    as_ecma(&mut random);
+    // Change 4: negative fractions, points that no digit follows, and their neighbours
+    for n in [4294, 4295, 8590, JS_ONE - 1, JS_ONE, 2 * JS_ONE + 1, 7 * JS_ONE + 4294, 7 * JS_ONE + 4295, 0x4000_0000, 3 * JS_ONE / 2, 67_108_864, 255 * JS_ONE + 0x8000_0000] {
+        number(-n);
+        number(n);
+    }
+    for n in [i64::MIN + 1, i64::MIN + 4294, i64::MIN + 4295, i64::MIN + 0x8000_0000, JS_NAN - 4294, JS_NAN - 4295, 1 - JS_ONE, -1 - JS_ONE] {
+        number(n);
+    }
+    let mut met = [0; 2];
+    for _ in 0..40 {
+        let n = -(random.number().unsigned_abs() as i64 >> 16);
+        met[usize::from(amended::is_amended(n))] += 1;
+        number(n);
+    }
+    assert!(met[1] >= 20, "few negative fractions: {:?}", met);
     for n in [0x1_8000_0000, -0x8000_0000, 4294, 4295, 429_496_730, 0xffff_ffff, -0xffff_ffff, i64::MIN + 0xffff_ffff, i64::MIN + JS_ONE, 0x7fff_fffe_ffff_ffff, 0x1_2000_0000, 10 * JS_ONE, -10 * JS_ONE, 100_000 * JS_ONE + 1] {
         number(n);
     }

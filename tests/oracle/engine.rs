@@ -1,8 +1,10 @@
-//! A JsVm as the samples use it, and what it holds as bytes. Compiled twice: over the unchanged js_vm, and over the copy that is run step by step.
+//! A JsVm as the samples use it, and what it holds as bytes. Compiled over each of the three: js_vm unchanged, the copy with document 02's changes, and the
+//! one that is run step by step.
 
 use super::js_compiler::{Chunk, FunctionTemplate};
-use super::js_vm::{JsValue, JsVm, JsVmError, ObjectType};
+use super::js_vm::{CallFrame, JsObject, JsValue, JsVm, JsVmError, ObjectType};
 use crate::sample::{Given, Plain};
+use crate::stepped::js_vm as stepped;
 use alloc::{string::String, vec::Vec};
 
 pub fn word(out: &mut Vec<u8>, n: usize) {
@@ -85,6 +87,19 @@ pub fn given(g: &Given) -> JsValue {
     }
 }
 
+/// A value of the copy that is stepped.
+fn same(v: &stepped::JsValue) -> JsValue {
+    match v {
+        stepped::JsValue::Undefined => JsValue::Undefined,
+        stepped::JsValue::Null => JsValue::Null,
+        stepped::JsValue::Boolean(b) => JsValue::Boolean(*b),
+        stepped::JsValue::Number(n) => JsValue::Number(*n),
+        stepped::JsValue::String(s) => JsValue::String(s.clone()),
+        stepped::JsValue::Object(o) => JsValue::Object(*o),
+        stepped::JsValue::Function(f) => JsValue::Function(*f),
+    }
+}
+
 pub struct Engine {
     pub vm: JsVm,
 }
@@ -92,6 +107,44 @@ pub struct Engine {
 impl Engine {
     pub fn new() -> Engine {
         Engine { vm: JsVm::new() }
+    }
+
+    /// What the copy that is stepped holds. A js_vm keeps its handlers to itself, so they are entered anew, each over as many operands and frames as it saved.
+    pub fn holding(from: &stepped::JsVm) -> Engine {
+        let mut vm = JsVm::new();
+        let frame = |f: &stepped::CallFrame| CallFrame {
+            function_id: f.function_id,
+            ip: f.ip,
+            base_slot: f.base_slot,
+            locals: f.locals.iter().map(same).collect(),
+            bytecode: f.bytecode.clone(),
+            constants: f.constants.clone(),
+        };
+        let empty = CallFrame { function_id: usize::MAX, ip: 0, base_slot: 0, locals: Vec::new(), bytecode: Vec::new(), constants: Vec::new() };
+        for [place, operands, frames] in from.handlers() {
+            vm.stack = vec![JsValue::Undefined; operands];
+            vm.call_stack = vec![empty.clone(); frames - 1];
+            let bytecode = vec![75, (place >> 8) as u8, place as u8, 255];
+            vm.run_chunk(&Chunk { bytecode, constants: Vec::new(), line_numbers: Vec::new() }).ok().expect("a try is entered");
+        }
+        vm.stack = from.stack.iter().map(same).collect();
+        vm.call_stack = from.call_stack.iter().map(frame).collect();
+        vm.globals = from.globals.iter().map(|(n, v)| (n.clone(), same(v))).collect();
+        vm.object_arena = from
+            .object_arena
+            .iter()
+            .map(|o| JsObject {
+                properties: o.properties.iter().map(|(k, v)| (k.clone(), same(v))).collect(),
+                prototype: o.prototype,
+                internal_type: match o.internal_type {
+                    stepped::ObjectType::Array => ObjectType::Array,
+                    _ => ObjectType::Ordinary,
+                },
+            })
+            .collect();
+        vm.function_arena = from.function_arena.clone();
+        vm.output = from.output.clone();
+        Engine { vm }
     }
 
     pub fn register(&mut self, template: FunctionTemplate) -> usize {

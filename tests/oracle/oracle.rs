@@ -2,43 +2,43 @@
 
 use crate::images;
 use crate::limits;
-use crate::runs::{Both, Coverage};
+use crate::runs::{Judges, Coverage};
 use crate::sample::{Action, Given, Plain, Rng, Sample};
 use crate::words::Words;
-use crate::{plain, specials};
+use crate::{amended, specials};
 use std::fmt::Write;
 
 /// The bytes that the sample comes to, as Summary.antt writes them; None where it cannot be compared.
 fn expected(sample: &Sample, cap: usize, seen: &mut Coverage) -> Option<Vec<u8>> {
-    let mut both = Both::new();
+    let mut judges = Judges::new();
     let mut out = Vec::new();
     let mut loaded = 0;
     for action in &sample.actions {
         match action {
             Action::Load => {
                 out.push(2);
-                plain::engine::word(&mut out, loaded);
+                amended::engine::word(&mut out, loaded);
                 loaded += 1;
             }
             Action::Register(i, t) => {
                 out.push(2);
-                plain::engine::word(&mut out, both.register(sample, *i, *t));
+                amended::engine::word(&mut out, judges.register(sample, *i, *t));
             }
             Action::SetGlobal(name, g) => {
-                both.set_global(name, g);
+                judges.set_global(name, g);
                 out.push(3);
             }
             Action::ReadGlobal(name) => {
                 out.push(4);
-                plain::engine::value(&mut out, &both.engine.read_global(name));
+                amended::engine::value(&mut out, &judges.engine.read_global(name));
             }
             Action::Drain => {
                 out.push(6);
-                out.extend_from_slice(&both.drain());
+                out.extend_from_slice(&judges.drain());
             }
             Action::Run(i) => {
                 out.push(5);
-                out.extend_from_slice(&both.run(sample, *i, cap, seen).filter(|t| !t.refused)?.bytes());
+                out.extend_from_slice(&judges.run(sample, *i, cap, seen).filter(|t| !t.refused)?.bytes());
             }
         }
     }

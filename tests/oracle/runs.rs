@@ -1,12 +1,13 @@
-//! A sample's runs on both copies of js_vm, and what they come to. Used by the oracle and by the list that the engine is held to (tests/replay).
+//! A sample's runs on js_vm and on its copies, and what they come to. Used by the oracle, by the list that the engine is held to (tests/replay) and by the
+//! differential runs.
 
+use crate::amended::js_vm::{is_amended, number_texts};
 use crate::images::OPCODES;
 use crate::limits;
-use crate::plain::js_compiler::{Chunk, Constant};
-use crate::plain::js_vm as unchanged;
-use crate::sample::{Given, Sample};
-use crate::stepped::js_vm::{JsValue, JsVmError};
-use crate::{plain, stepped};
+use crate::plain::js_compiler::Constant;
+use crate::sample::{Given, Plain, Sample};
+use crate::stepped::js_vm::{self, JsValue, JsVmError};
+use crate::{amended, plain, stepped};
 
 /// What the samples of a set made happen.
 pub struct Coverage {
@@ -17,16 +18,23 @@ pub struct Coverage {
     pub steps: usize,
     pub most: usize,
     pub runs: usize,
+    /// Texts of numbers that the runs made, those of them that 000 writes otherwise, and the runs in which none of those was made: they are compared with 000 unchanged.
+    pub texts: [usize; 2],
+    pub unchanged: usize,
+    /// The instructions that made such a text, by their opcodes, and the text calls.
+    pub amending: Vec<usize>,
+    pub amended_calls: usize,
 }
 
 impl Coverage {
     pub fn new() -> Coverage {
-        Coverage { opcodes: vec![0; 256], ends: vec![0; 64], run_out: 0, caught: 0, steps: 0, most: 0, runs: 0 }
+        Coverage { opcodes: vec![0; 256], ends: vec![0; 64], run_out: 0, caught: 0, steps: 0, most: 0, runs: 0, texts: [0; 2], unchanged: 0, amending: vec![0; 256], amended_calls: 0 }
     }
 
     pub fn add(&mut self, c: &Coverage) {
         for i in 0..256 {
             self.opcodes[i] += c.opcodes[i];
+            self.amending[i] += c.amending[i];
         }
         for i in 0..64 {
             self.ends[i] += c.ends[i];
@@ -36,6 +44,9 @@ impl Coverage {
         self.steps += c.steps;
         self.runs += c.runs;
         self.most = self.most.max(c.steps);
+        self.texts = [self.texts[0] + c.texts[0], self.texts[1] + c.texts[1]];
+        self.unchanged += c.unchanged;
+        self.amended_calls += c.amended_calls;
     }
 
     /// What was executed and how the runs ended, on standard error.
@@ -47,6 +58,16 @@ impl Coverage {
         eprintln!("opcodes never executed: {:?}; unknown bytes met: {}; frames run out: {}; throws caught: {}", missed, unknown, self.run_out, self.caught);
         let ends: Vec<String> = (0..64).filter(|e| self.ends[*e] > 0).map(|e| format!("{}:{}", e, self.ends[e])).collect();
         eprintln!("ends (number:times): {}", ends.join(" "));
+        let amending: Vec<String> = (0..256).filter(|b| self.amending[*b] > 0).map(|b| format!("{}:{}", b, self.amending[b])).collect();
+        eprintln!(
+            "texts of numbers: {}, of which 000 writes {} otherwise (opcode:times): {}; text calls of such a number: {}; runs with no such text, compared with 000 unchanged: {} of {}",
+            self.texts[0],
+            self.texts[1],
+            amending.join(" "),
+            self.amended_calls,
+            self.unchanged,
+            self.runs
+        );
     }
 }
 
@@ -60,7 +81,7 @@ enum Stopped {
     Past(usize, u8),
 }
 
-/// What a run is said to come to, beside what the unchanged js_vm gives.
+/// What a run is said to come to, beside what it gives in one go.
 struct Observed {
     steps: usize,
     thrown: (Vec<u8>, String),
@@ -132,11 +153,15 @@ impl Stepper {
     }
 
     /// One step; the text that it keeps goes to the text store.
-    fn step(&mut self, op: Option<u8>) -> Result<JsValue, JsVmError> {
+    fn step(&mut self, op: Option<u8>, seen: &mut Coverage) -> Result<JsValue, JsVmError> {
         let key = self.key(op);
         let rows = if key.is_some() { self.rows() } else { 0 };
         let objects = self.engine.vm.object_arena.len();
+        let texts = js_vm::number_texts();
         let r = self.engine.vm.go_on();
+        if js_vm::number_texts()[1] > texts[1] {
+            seen.amending[usize::from(op.expect("an instruction"))] += 1;
+        }
         if let Some(k) = key {
             if self.rows() > rows {
                 self.texts.extend_from_slice(k.as_bytes());
@@ -176,7 +201,7 @@ impl Stepper {
                     stepped::engine::value(&mut thrown.0, v);
                 }
             }
-            end = self.step(next);
+            end = self.step(next, seen);
             steps += 1;
             match next {
                 Some(b) => seen.opcodes[b as usize] += 1,
@@ -233,44 +258,45 @@ impl Told {
     }
 }
 
-/// The value, as the unchanged copy has it.
-fn same(v: &JsValue) -> unchanged::JsValue {
-    match v {
-        JsValue::Undefined => unchanged::JsValue::Undefined,
-        JsValue::Null => unchanged::JsValue::Null,
-        JsValue::Boolean(b) => unchanged::JsValue::Boolean(*b),
-        JsValue::Number(n) => unchanged::JsValue::Number(*n),
-        JsValue::String(s) => unchanged::JsValue::String(s.clone()),
-        JsValue::Object(o) => unchanged::JsValue::Object(*o),
-        JsValue::Function(f) => unchanged::JsValue::Function(*f),
-    }
+/// The text of a value that the host gives, by the rule; where both are to agree, also 000's own.
+pub fn text(g: &Given, seen: &mut Coverage) -> String {
+    let amended = matches!(g, Given::Plain(Plain::Number(n)) if is_amended(*n));
+    let text = amended::engine::given(g).to_js_string();
+    assert_eq!(plain::engine::given(g).to_js_string() != text, amended, "the text call: {}", text);
+    seen.amended_calls += usize::from(amended);
+    text
 }
 
-/// Both copies, doing the same.
-pub struct Both {
-    pub engine: plain::engine::Engine,
+/// js_vm and its copies, doing the same. The copy with document 02's changes judges; 000 unchanged must agree with it wherever no change is met, and the copy that is
+/// stepped always.
+pub struct Judges {
+    pub engine: amended::engine::Engine,
+    unchanged: plain::engine::Engine,
     stepper: Stepper,
 }
 
-impl Both {
-    pub fn new() -> Both {
+impl Judges {
+    pub fn new() -> Judges {
         let stepper = Stepper { engine: stepped::engine::Engine::new(), whose: Vec::new(), texts: Vec::new() };
-        Both { engine: plain::engine::Engine::new(), stepper }
+        Judges { engine: amended::engine::Engine::new(), unchanged: plain::engine::Engine::new(), stepper }
     }
 
     pub fn register(&mut self, sample: &Sample, image: usize, t: usize) -> usize {
         let template = sample.images[image].template(image, t);
         self.stepper.engine.register(template.clone());
+        self.unchanged.register(template.clone());
         self.engine.register(template)
     }
 
     pub fn set_global(&mut self, name: &[u8], g: &Given) {
         self.stepper.set_global(name, g);
+        self.unchanged.set_global(name, g);
         self.engine.set_global(name, g);
     }
 
     pub fn drain(&mut self) -> Vec<u8> {
         self.stepper.engine.drain();
+        self.unchanged.drain();
         self.engine.drain()
     }
 
@@ -283,11 +309,15 @@ impl Both {
         self.engine.state(&self.stepper.whose, &self.stepper.engine.vm.handlers(), self.stepper.texts.len())
     }
 
+    fn unchanged_state(&self) -> Vec<u8> {
+        self.unchanged.state(&self.stepper.whose, &self.stepper.engine.vm.handlers(), self.stepper.texts.len())
+    }
+
     /// None where the run makes more steps than `cap`; then nothing can follow.
     pub fn run(&mut self, sample: &Sample, image: usize, cap: usize, seen: &mut Coverage) -> Option<Told> {
         let before = self.stepper.copy();
         let told = match self.stepper.run(sample, image, cap, usize::MAX, seen) {
-            Ok(o) => self.ended(sample, image, o),
+            Ok(o) => self.ended(sample, image, o, seen),
             Err(Stopped::Past(step, question)) => {
                 self.stepper = before;
                 self.refused(sample, image, step, question)
@@ -300,67 +330,40 @@ impl Both {
         Some(told)
     }
 
-    fn ended(&mut self, sample: &Sample, image: usize, o: Observed) -> Told {
-        let r = self.engine.run(&sample.images[image].chunk(image));
-        let end = plain::engine::end(&r, &o.thrown);
+    fn ended(&mut self, sample: &Sample, image: usize, o: Observed, seen: &mut Coverage) -> Told {
+        let chunk = sample.images[image].chunk(image);
+        let texts = number_texts();
+        let r = self.engine.run(&chunk);
+        let made = [number_texts()[0] - texts[0], number_texts()[1] - texts[1]];
+        seen.texts = [seen.texts[0] + made[0], seen.texts[1] + made[1]];
+        let end = amended::engine::end(&r, &o.thrown);
         let state = self.state();
         assert_eq!(end, o.end, "the copy that is stepped ends otherwise");
         assert_eq!(state, self.stepper.state(), "the copy that is stepped leaves something else");
+        if made[1] == 0 {
+            seen.unchanged += 1;
+            assert_eq!(plain::engine::end(&self.unchanged.run(&chunk), &o.thrown), end, "000 unchanged ends otherwise");
+        } else {
+            self.unchanged = plain::engine::Engine::holding(&self.stepper.engine.vm);
+        }
+        assert_eq!(self.unchanged_state(), state, "000 unchanged holds something else");
         let value = match r {
             Ok(v) => v.to_js_string(),
-            Err(unchanged::JsVmError::UncaughtException { message }) => message,
+            Err(amended::js_vm::JsVmError::UncaughtException { message }) => message,
             Err(_) => "undefined".into(),
         };
         Told { refused: false, end, steps: o.steps, state, handlers: self.stepper.engine.vm.handler_count(), value }
     }
 
-    /// A run whose step with this number is refused. Both copies stand again as before that step.
+    /// A run whose step with this number is refused. All stand again as before that step.
     fn refused(&mut self, sample: &Sample, image: usize, step: usize, question: u8) -> Told {
         self.stepper.run(sample, image, limits::STEPS, step - 1, &mut Coverage::new()).ok().expect("the steps before a refusal");
-        self.renew();
+        self.engine = amended::engine::Engine::holding(&self.stepper.engine.vm);
+        self.unchanged = plain::engine::Engine::holding(&self.stepper.engine.vm);
         let state = self.state();
-        assert_eq!(state, self.stepper.state(), "the unchanged copy takes something else");
+        assert_eq!(state, self.stepper.state(), "the copy with the changes takes something else");
+        assert_eq!(state, self.unchanged_state(), "000 unchanged takes something else");
         let handlers = self.stepper.engine.vm.handler_count();
         Told { refused: true, end: vec![question], steps: step, state, handlers, value: "undefined".into() }
-    }
-
-    /// Gives an unchanged js_vm what the stepped one holds. It keeps its handlers to itself, so they are entered anew, each over as many operands and
-    /// frames as it saved.
-    fn renew(&mut self) {
-        let from = &self.stepper.engine.vm;
-        let mut vm = unchanged::JsVm::new();
-        let frame = |f: &stepped::js_vm::CallFrame| unchanged::CallFrame {
-            function_id: f.function_id,
-            ip: f.ip,
-            base_slot: f.base_slot,
-            locals: f.locals.iter().map(same).collect(),
-            bytecode: f.bytecode.clone(),
-            constants: f.constants.clone(),
-        };
-        let empty = unchanged::CallFrame { function_id: usize::MAX, ip: 0, base_slot: 0, locals: Vec::new(), bytecode: Vec::new(), constants: Vec::new() };
-        for [place, operands, frames] in from.handlers() {
-            vm.stack = vec![unchanged::JsValue::Undefined; operands];
-            vm.call_stack = vec![empty.clone(); frames - 1];
-            let bytecode = vec![75, (place >> 8) as u8, place as u8, 255];
-            vm.run_chunk(&Chunk { bytecode, constants: Vec::new(), line_numbers: Vec::new() }).ok().expect("a try is entered");
-        }
-        vm.stack = from.stack.iter().map(same).collect();
-        vm.call_stack = from.call_stack.iter().map(frame).collect();
-        vm.globals = from.globals.iter().map(|(n, v)| (n.clone(), same(v))).collect();
-        vm.object_arena = from
-            .object_arena
-            .iter()
-            .map(|o| unchanged::JsObject {
-                properties: o.properties.iter().map(|(k, v)| (k.clone(), same(v))).collect(),
-                prototype: o.prototype,
-                internal_type: match o.internal_type {
-                    stepped::js_vm::ObjectType::Array => unchanged::ObjectType::Array,
-                    _ => unchanged::ObjectType::Ordinary,
-                },
-            })
-            .collect();
-        vm.function_arena = from.function_arena.clone();
-        vm.output = from.output.clone();
-        self.engine = plain::engine::Engine { vm };
     }
 }

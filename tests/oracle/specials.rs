@@ -73,6 +73,11 @@ pub fn short() -> Vec<Sample> {
     // elements read by number, by text, and past the end
     let keys = [Const::Number(7 * ONE), text("x"), Const::Number(ONE), text("0"), Const::Number(2 * ONE), Const::Number(ONE / 2)];
     one(&keys, &[0, 0, 0, 0, 0, 1, 61, 2, 2, 0, 0, 1, 0, 0, 0, 0, 2, 7, 1, 0, 0, 0, 0, 3, 7, 1, 0, 0, 0, 0, 4, 7, 1, 0, 0, 0, 0, 5, 7]);
+    // change 4: numbers whose text 000 writes otherwise, joined to a text, stored by and read by in an array, printed
+    for n in [1, -1, 4294, -4295, -ONE / 2, -3 * ONE / 2, 5 * ONE + 1, i64::MIN + 1] {
+        let constants = [Const::Number(n), text(""), text("console"), Const::Number(7 * ONE)];
+        one(&constants, &[0, 0, 0, 0, 0, 1, 10, 61, 0, 81, 81, 0, 0, 0, 0, 0, 3, 8, 0, 0, 0, 7, 3, 0, 2, 0, 0, 0, 50, 1, 255]);
+    }
     // a line of more than 255 bytes
     one(&[text("console"), text(&"ab".repeat(70)), text("length")], &[3, 0, 0, 0, 0, 1, 0, 0, 1, 10, 0, 0, 0, 50, 2, 0, 0, 1, 5, 0, 2, 255]);
     // constants of each kind made a closure, and used for names

@@ -1,5 +1,5 @@
 
-// Put after the unchanged text of document 000, in the copy that is run step by step: what that file keeps to itself.
+// Put after the text of document 000 with document 02's changes, in the copy that is run step by step: what that file keeps to itself.
 impl JsVm {
     /// How many steps the loop makes before it gives ExecutionLimitExceeded.
     pub fn limit_steps(&mut self, n: usize) {

@@ -1,8 +1,8 @@
 //! Writes the list of crates/replay: programs, and what the Rust of documents 000 to 002 came to on each. README.md has the format.
 
-use crate::plain::engine::{counted, given, value, word};
+use crate::amended::engine::{counted, given, value, word};
 use crate::limits;
-use crate::runs::{Both, Coverage};
+use crate::runs::{Judges, Coverage};
 use crate::sample::{Action, Const, Given, Plain, Rng, Sample};
 use crate::words::Words;
 use crate::{images, specials};
@@ -17,7 +17,7 @@ const MOST: usize = 65_536;
 struct Program<'a> {
     sample: &'a Sample,
     host: bool,
-    both: Both,
+    judges: Judges,
     out: Vec<u8>,
     images: usize,
     /// Of the images that were loaded, and their bytes.
@@ -27,7 +27,7 @@ struct Program<'a> {
 
 impl<'a> Program<'a> {
     fn new(sample: &'a Sample, host: bool) -> Program<'a> {
-        Program { sample, host, both: Both::new(), out: Vec::new(), images: 0, loaded: 0, code: 0 }
+        Program { sample, host, judges: Judges::new(), out: Vec::new(), images: 0, loaded: 0, code: 0 }
     }
 
     fn load(&mut self) {
@@ -52,11 +52,11 @@ impl<'a> Program<'a> {
 
     /// False where nothing can follow: the run is refused for space.
     fn run(&mut self, image: usize, cap: usize, seen: &mut Coverage) -> Option<bool> {
-        if self.both.engine.vm.call_stack.len() == limits::FRAMES {
+        if self.judges.engine.vm.call_stack.len() == limits::FRAMES {
             self.out.extend_from_slice(&[7, image as u8, 11]);
             return Some(true);
         }
-        let told = self.both.run(self.sample, image, cap, seen)?;
+        let told = self.judges.run(self.sample, image, cap, seen)?;
         self.out.extend_from_slice(&[2, image as u8]);
         self.out.extend_from_slice(&told.bytes());
         Some(!told.refused)
@@ -69,12 +69,12 @@ impl<'a> Program<'a> {
             Action::Run(i) => return self.run(*i, cap, seen),
             Action::Drain => {
                 self.out.push(3);
-                self.out.extend_from_slice(&self.both.drain());
+                self.out.extend_from_slice(&self.judges.drain());
             }
             Action::Register(i, t) if self.host => {
                 self.out.extend_from_slice(&[4, *i as u8]);
                 word(&mut self.out, *t);
-                word(&mut self.out, self.both.register(self.sample, *i, *t));
+                word(&mut self.out, self.judges.register(self.sample, *i, *t));
             }
             Action::SetGlobal(name, g) if self.host => {
                 self.out.push(5);
@@ -87,12 +87,12 @@ impl<'a> Program<'a> {
                     }
                     _ => value(&mut self.out, &given(g)),
                 }
-                self.both.set_global(name, g);
+                self.judges.set_global(name, g);
             }
             Action::ReadGlobal(name) if self.host => {
                 self.out.push(6);
                 counted(&mut self.out, name);
-                value(&mut self.out, &self.both.engine.read_global(name));
+                value(&mut self.out, &self.judges.engine.read_global(name));
             }
             Action::Register(..) | Action::SetGlobal(..) | Action::ReadGlobal(..) => {}
         }

@@ -1,19 +1,29 @@
--- What the changes of document 02 promise, of the engine: each over every list of calls from what clear gives, as demand 3. Assumes nothing.
+-- What the changes of document 02 promise, of the engine: over every list of calls from what clear gives, as demand 3, or of a call over any stores of listed size.
+-- Assumes nothing.
+use mathlib.Core.Bool.{Bool, true}
 use mathlib.Core.List.{List}
-use mathlib.Core.Path.{_≡_}
-use Prim.Native.Nat.{_≤_}
+use mathlib.Core.Path.{_≡_, sym, ap, _∙_}
+use lib.ListN.{length}
+use Prim.Native.Nat.{ℕ, _^_, _≤_, _<_}
 use Rattle.machine.specs.State.{fresh, limit, handlerStore}
+use Rattle.machine.specs.Value.{number}
+use Rattle.machine.specs.Act.{plain}
+use Rattle.machine.specs.Number as N
+use Rattle.machine.specs.NumberText.{numberAnswer}
 use Rattle.machine.specs.Host as H
 use Rattle.machine.specs.Host.{history}
 use Rattle.machine.specs.Demand3.{All}
 use Rattle.machine.specs.Tries.{Tried}
 use Rattle.machine.proofs.Enter.{calls-try}
+use Rattle.machine.proofs.NumberText.{number-call, number-fits}
 use Rattle.machine.proofs.Engine as Machine·Engine
 use Rattle.heapops.specs.declared.Counts.{Counts}
 use Rattle.heapops.specs.Turns.{Mem}
+use Rattle.texts.specs.Overwrite.{overwrite}
 use Rattle.finish.specs.Parts.{Tables}
+use Rattle.run.specs.Runs.{stateIn}
 use Rattle.host.specs.declared.Changed.the-variants.{Done as Changed·Done}
-use Rattle.host.specs.Calls.{Clears}
+use Rattle.host.specs.Calls.{Clears, Called, Buffered, bufferBy, lent}
 use Rattle.host.specs.Lent.{lent-within}
 use Rattle.engine.specs.Demand3.{Engine, engine, Made, demand3}
 
@@ -23,3 +33,15 @@ module _ {g g′ : Tables} {m m′ : Mem} {c : Counts} {calls : List H.Call} {an
   -- goes on; and no more handlers than that are pending afterwards.
   pub handlers-limited : All (λ d. All Tried (d .steps)) (history fresh calls) × (answers ≡ Machine·Engine.answers (history fresh calls)) × (e .counts .depths .handlers ≤ limit handlerStore)
   handlers-limited = let d = demand3 k r in (calls-try calls, d .1, lent-within {c = e .counts} {g = e .tables} {m = e .mem} (record { right = d .2 .right }) .handlers)
+
+module _ {c c′ : Counts} {g g′ : Tables} {m m′ : Mem} {b b′ : List ℕ} {a : H.Answer} {n : ℕ}
+    (k : Called (H.text (plain (number n)) (length b)) c g m a c′ g′ m′) (f : Buffered a b b′) (l : lent c g m ≡ true) where
+  -- Change 4: the text call of a number answers its text, or 31 where the buffer is shorter.
+  pub number-answered : a ≡ numberAnswer n (length b)
+  number-answered =
+      sym (k .machine (λ q. tt) .0) ∙ ap (λ (t : Bool). H.performOn t (H.text (plain (number n)) (length b)) (stateIn c g m) .answer) l
+      ∙ number-call n (length b) (stateIn c g m)
+
+  -- A buffer of 18 bytes has room for every number's text, which stands at its start then.
+  pub number-written : n < 2 ^ 64 → 18 ≤ length b → (a ≡ H.wrote (N.formatJsNumber n)) × (b′ ≡ overwrite b 0 (N.formatJsNumber n))
+  number-written h r = let e = number-answered ∙ number-fits n (length b) h r in (e, f .bytes ∙ ap (λ (x : H.Answer). bufferBy x b) e)

@@ -1,9 +1,10 @@
--- Change 4 of document 02, the text of a number: how long it is, that of a whole number, how near it is, and on which numbers it is another than that of
--- 000. Assumes nothing.
+-- Change 4 of document 02, the text of a number: how long it is, that of a whole number, how near it is, on which numbers it is another than that of 000, and
+-- what the text call answers. Assumes nothing.
 use mathlib.Core.Path.{_≡_, refl, sym, ap, ap₂, _∙_}
 use mathlib.Core.Bool.{Bool, true, false, not, _&&_, _||_, true≢false, and-true, and-false}
 use mathlib.Core.List.{List, [], _∷_, _++_, reverse, reverse-append, reverse-reverse, append-nil}
 use mathlib.Core.Logic.{_↔_}
+use mathlib.Core.Option.{none}
 use Prim.Native.Nat.{ℕ, zero, suc, _+_, _-_, _*_, _/_, _%_, _^_, _≤_, _<_}
 use native.Mathlib.Omega.{arith}
 use lib.Dec.{leb, ltb, eqb}
@@ -11,7 +12,11 @@ use lib.ListN.{length, length-append, length-reverse}
 use borrow.Author.Tests.{eqb-true, eqb-false, eq-eqb, ne-eqb, leb-true, leb-false, le-leb, lt-leb, ltb-true, ltb-false, lt-ltb, le-ltb}
 use Rattle.machine.specs.Basic.{if_then_else_}
 use Rattle.machine.specs.Number as N
-use Rattle.machine.specs.NumberText.{floorText, originalText, amended}
+use Rattle.machine.specs.NumberText.{floorText, originalText, amended, numberAnswer}
+use Rattle.machine.specs.Value.{number}
+use Rattle.machine.specs.State.{State}
+use Rattle.machine.specs.Act.{plain}
+use Rattle.machine.specs.Host as H
 
 -- Decimal digits
 
@@ -111,8 +116,15 @@ text-length a h = go (eqb a N.nan)
     go false =
         let m = N.magnitude a in
         let w : m / 2 ^ 32 < 10 ^ 10 = let l = magnitude-most a h in omega arith in
-        omega (arith, length-append (N.minusSign (N.isNegative a && not (N.allZero m))) (N.magnitudeText m), sign-length (N.isNegative a && not (N.allZero m)),
-        length-append (N.decimal (m / 2 ^ 32)) (N.pointed (N.fraction m)), decimal-length 20 9 (m / 2 ^ 32) [] w, pointed-length (N.fraction m), fraction-length m)
+        omega (
+          arith,
+          length-append (N.minusSign (N.isNegative a && not (N.allZero m))) (N.magnitudeText m),
+          sign-length (N.isNegative a && not (N.allZero m)),
+          length-append (N.decimal (m / 2 ^ 32)) (N.pointed (N.fraction m)),
+          decimal-length 20 9 (m / 2 ^ 32) [] w,
+          pointed-length (N.fraction m),
+          fraction-length m,
+        )
 
 pub longest : length (N.formatJsNumber (2 ^ 63 + 1)) ≡ 18
 longest = refl
@@ -274,7 +286,7 @@ module _ (a : ℕ) (h : a < 2 ^ 64) (n : a ≡ N.nan → ⊥) where
       go false ez p =
           let l = leb-true (2 ^ 63) a e in
           let t : m / 2 ^ 32 ≡ 2 ^ 32 - N.floor a = sym (lead-decimal (m / 2 ^ 32) ds (omega arith) ∙ lead-pointed (m / 2 ^ 32) (N.fraction m))
-              ∙ ap (λ (x : List ℕ). lead 0 (tail x)) p ∙ lead-decimal (2 ^ 32 - N.floor a) (46 ∷ N.fraction a) (omega arith) in
+          ∙ ap (λ (x : List ℕ). lead 0 (tail x)) p ∙ lead-decimal (2 ^ 32 - N.floor a) (46 ∷ N.fraction a) (omega arith) in
           omega arith
 
   -- a point that no digit follows
@@ -296,7 +308,7 @@ module _ (a : ℕ) (h : a < 2 ^ 64) (n : a ≡ N.nan → ⊥) where
       let new = text-number a n in
       let old = original-is a h n in
       let l : amended a ≡ (not (eqb (a % 2 ^ 32) 0) && (N.isNegative a || eqb (N.millionths a) 0)) =
-          ap (λ (t : Bool). not t && not (eqb (a % 2 ^ 32) 0) && (N.isNegative a || eqb (N.millionths a) 0)) (ne-eqb a N.nan n) in
+      ap (λ (t : Bool). not t && not (eqb (a % 2 ^ 32) 0) && (N.isNegative a || eqb (N.millionths a) 0)) (ne-eqb a N.nan n) in
       ((λ q. l ∙ k .0 (sym new ∙ q ∙ old)), (λ q. new ∙ k .1 (sym l ∙ q) ∙ sym old))
 
 pub same-text : (a : ℕ) → a < 2 ^ 64 → (N.formatJsNumber a ≡ originalText a) ↔ (amended a ≡ false)
@@ -305,3 +317,16 @@ same-text a h = go (eqb a N.nan) refl
     go : (t : Bool) → eqb a N.nan ≡ t → (N.formatJsNumber a ≡ originalText a) ↔ (amended a ≡ false)
     go true e = ((λ q. rw e), (λ q. rw e))
     go false e = same-not-nan a h (eqb-false a N.nan e)
+
+-- The text call of a number, in every state: its text, or 31. A buffer of 18 bytes is always enough.
+
+pub number-call : (a room : ℕ) (s : State) → H.perform (H.text (plain (number a)) room) s .answer ≡ numberAnswer a room
+number-call a room s = go (leb (length (N.formatJsNumber a)) room)
+  where
+    go : (b : Bool) → H.performed (H.ask 31 b none) (H.text (plain (number a)) room) s .answer ≡ (if b then H.wrote (N.formatJsNumber a) else H.refusal 31)
+    go true = refl
+    go false = refl
+
+pub number-fits : (a room : ℕ) → a < 2 ^ 64 → 18 ≤ room → numberAnswer a room ≡ H.wrote (N.formatJsNumber a)
+number-fits a room h l =
+    ap (λ (b : Bool). if b then H.wrote (N.formatJsNumber a) else H.refusal 31) (le-leb (length (N.formatJsNumber a)) room (omega (arith, text-length a h)))

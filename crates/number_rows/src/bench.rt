@@ -1,9 +1,9 @@
-//! The number rows of document 01's bench sheet.
+//! The number rows of document 01's bench sheet, that of number texts as change 4 amends it.
 use crate::formats;
 use libc::STDOUT_FILENO;
 use number::JsNumber;
 
-pub const ROWS: u64 = 12;
+pub const ROWS: u64 = 13;
 
 // The most negative number, minus one as a count of 2^-32, and minus one.
 const LEAST: u64 = 0x8000_0000_0000_0000;
@@ -64,9 +64,10 @@ fn texts(differ: u64) -> u64 {
     let n = row(
         n,
         b"raw -2^31 written",
-        formats(b"-1.5", 0xffff_ffff_8000_0000),
+        formats(b"-0.5", 0xffff_ffff_8000_0000),
     );
-    row(n, b"raw 1 written", formats(b"0.", 1))
+    let n = row(n, b"raw 1 written", formats(b"0", 1));
+    row(n, b"raw -1 written", formats(b"0", MINUS_RAW))
 }
 
 pub fn differing() -> u64 {
