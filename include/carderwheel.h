@@ -30,6 +30,7 @@ enum {
     CARDERWHEEL_IMAGES = 16,
     CARDERWHEEL_TEXT_BYTES = 32768,  /* also the longest text of a value */
     CARDERWHEEL_OUTPUT_BYTES = 8192, /* also the most that carderwheel_drain writes */
+    CARDERWHEEL_NUMBER_BYTES = 18,   /* the longest text of a number, -2147483647.999999 */
     CARDERWHEEL_STEPS = 100000       /* of a run */
 };
 
@@ -205,7 +206,7 @@ static inline carderwheel_ran carderwheel_run(carderwheel *e, uint64_t image) {
     return a.ran;
 }
 
-/* The value's text, as a script would print it. */
+/* The value's text, as a script would print it: of minus one half `-0.5`. CARDERWHEEL_NUMBER_BYTES hold that of any number, CARDERWHEEL_TEXT_BYTES any. */
 static inline uint64_t carderwheel_text(const carderwheel *e, carderwheel_value v, uint8_t *buffer, size_t size, size_t *written) {
     uint8_t none;
     carderwheel_answer_ a = carderwheel_text_in(CARDERWHEEL_STORES_(e), v, size != 0 ? buffer : &none, size);

@@ -157,6 +157,27 @@ static const uint8_t *image_of(const uint8_t *code, size_t size, size_t *n) {
     store[0], lent[0], (uint16_t *)store[1], lent[1], (uint16_t *)store[2], lent[2], (uint16_t *)store[3], lent[3], (uint64_t *)store[4], lent[4],    \
         (uint64_t *)store[5], lent[5], store[6], lent[6], store[7], lent[7], counts
 
+/* The text of a number by change 4's rule: how many bytes it has. */
+static size_t number_text(uint64_t bits, char *text) {
+    if (bits == 0x7fffffffffffffff) return (size_t)sprintf(text, "NaN");
+    uint64_t size = bits >> 63 ? -bits : bits;
+    unsigned whole = (unsigned)(size >> 32), digits = (unsigned)((size & 0xffffffff) * 1000000 >> 32);
+    if (whole == 0 && digits == 0) return (size_t)sprintf(text, "0");
+    int n = sprintf(text, "%s%u.%06u", bits >> 63 ? "-" : "", whole, digits);
+    while (text[n - 1] == '0') n--;
+    return (size_t)(text[n - 1] == '.' ? n - 1 : n);
+}
+
+/* The text call of a number, whatever the stores hold: its text, or 31 where the buffer is shorter. */
+static void number_written(uint64_t bits, carderwheel_answer_ a, const uint8_t *buffer, size_t size) {
+    char text[32];
+    size_t n = number_text(bits, text);
+    if (a.number == 33) return;
+    if (n > CARDERWHEEL_NUMBER_BYTES) wrong("a number's text that is longer than the longest");
+    if (a.number != (n <= size ? 0 : 31)) wrong("another answer for a number's text");
+    if (a.number == 0 && (a.amount != n || memcmp(buffer, text, n) != 0)) wrong("another text of a number");
+}
+
 static void host_call(unsigned call) {
     static unsigned turn;
     size_t n, m;
@@ -223,6 +244,7 @@ static void host_call(unsigned call) {
           : call == 8 ? carderwheel_text_bytes_in(LENT, given, n, buffer, size)
                       : carderwheel_drain_in(LENT, buffer, size);
         written(a.number, a.amount, buffer, size);
+        if (call == 7 && v.kind == CARDERWHEEL_NUMBER) number_written(v.first, a, buffer, size);
         break;
     }
     default: {

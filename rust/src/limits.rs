@@ -24,5 +24,7 @@ pub const IMAGES: usize = 16;
 pub const TEXT_BYTES: usize = 32768;
 /// The bytes of output that wait; so also the most that a drain writes.
 pub const OUTPUT_BYTES: usize = 8192;
+/// The longest text of a number: `-2147483647.999999`.
+pub const NUMBER_BYTES: usize = 18;
 /// The steps of a run.
 pub const STEPS: usize = 100_000;

@@ -79,6 +79,7 @@ static int wrong;
 #define BUFFER now.buffer, sizeof now.buffer
 
 static const carderwheel_value other = {9, 9, 9}, seven = {CARDERWHEEL_NUMBER, 7ull << 32, 0};
+static const carderwheel_value half_below = {CARDERWHEEL_NUMBER, 0xFFFFFFFF80000000, 0}; /* minus one half */
 static const carderwheel_value outside = {CARDERWHEEL_CODE_TEXT, 0, CARDERWHEEL_CODE_BYTES};
 
 /* Document 01's sample: a throw of 7 that is caught; a chunk whose only byte is no opcode, with an empty template after it; one that prints `ice`
@@ -132,6 +133,10 @@ static void calls(void) {
     SAME(now.buffer[0], '7');
     REFUSED(carderwheel_text(&now.engine, seven, NULL, 0, &now.w), 31);
     REFUSED(carderwheel_text(&now.engine, outside, BUFFER, &now.w), 30);
+    SAME(carderwheel_text(&now.engine, half_below, now.buffer, 4, &now.w), 0);
+    SAME(now.w, 4);
+    SAME(memcmp(now.buffer, "-0.5", 4), 0);
+    REFUSED(carderwheel_text(&now.engine, half_below, now.buffer, 3, &now.w), 31);
     SAME(carderwheel_text_bytes(&now.engine, TEXT("ice"), BUFFER, &now.w), 0);
     SAME(now.w, 3);
     SAME(memcmp(now.buffer, "ice", 3), 0);

@@ -46,6 +46,7 @@ fn calls(engine: &mut Engine) {
 
     assert_eq!(engine.text(SEVEN, &mut buffer), Ok(&b"7"[..]));
     refused!(engine, buffer, engine.text(SEVEN, &mut []), 31);
+    assert_eq!(engine.text(Value::Number(-1 << 31), &mut buffer), Ok(&b"-0.5"[..]));
     refused!(engine, buffer, engine.text(OUTSIDE, &mut buffer), 30);
     assert_eq!(engine.text_of_bytes(b"ice", &mut buffer), Ok(&b"ice"[..]));
     refused!(engine, buffer, engine.text_of_bytes(b"\xE9", &mut buffer), 29);

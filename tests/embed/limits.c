@@ -1,5 +1,5 @@
-/* The header's limits are the library's: a count at its limit is taken, one above it refused (33), and a run makes so many steps. Prints them and the
-   engine's bytes, as limits.rs does; with an argument, what docs/EMBEDDING.md says of them. */
+/* The header's limits are the library's: a count at its limit is taken, one above it refused (33), a run makes so many steps, and the longest text of a number
+   has so many bytes. Prints them and the engine's bytes, as limits.rs does; with an argument, what docs/EMBEDDING.md says of them. */
 #include "carderwheel.h"
 
 #include <stdio.h>
@@ -29,6 +29,17 @@ static void limit(const char *name, uint64_t most, uint64_t *count) {
     if (at == 33 || above != 33) differs(name);
 }
 
+/* Of the least number but one, whose text is the longest (proved of crate number). */
+static void number_bytes(void) {
+    static const carderwheel_value least = {CARDERWHEEL_NUMBER, 0x8000000000000001, 0};
+    uint8_t buffer[CARDERWHEEL_NUMBER_BYTES];
+    size_t written = 0;
+    if (carderwheel_text(&engine, least, buffer, sizeof buffer, &written) != 0 || written != sizeof buffer ||
+        carderwheel_text(&engine, least, buffer, sizeof buffer - 1, &written) != 31)
+        differs("NUMBER_BYTES");
+    printf("NUMBER_BYTES %lu\n", (unsigned long)CARDERWHEEL_NUMBER_BYTES);
+}
+
 static void limits(void) {
     static const uint8_t jump[] = {0, 1, 0, 0, 0, 0, 0, 0, 0, 3, 0x28, 0, 0}; /* to itself */
     carderwheel_ran ran;
@@ -52,6 +63,7 @@ static void limits(void) {
     LIMIT(IMAGES, images);
     LIMIT(TEXT_BYTES, text);
     LIMIT(OUTPUT_BYTES, output);
+    number_bytes();
     printf("STEPS %lu\nbytes %lu\n", (unsigned long)CARDERWHEEL_STEPS, (unsigned long)sizeof engine);
 }
 
@@ -81,7 +93,8 @@ static void document(void) {
     printf("| text | %s of %s | %s |\n", PART(text));
     printf("| output | %s of %s | %s |\n", PART(output));
     printf("| total lent | | %s | |\n", n(sizeof engine));
-    printf("at most %s bytes for a drain, %s for a value's text\n", n(CARDERWHEEL_OUTPUT_BYTES), n(CARDERWHEEL_TEXT_BYTES));
+    printf("at most %s bytes for a drain, %s for a value's text (%s where it is a number)\n", n(CARDERWHEEL_OUTPUT_BYTES),
+           n(CARDERWHEEL_TEXT_BYTES), n(CARDERWHEEL_NUMBER_BYTES));
     printf("Have %s bytes free for a call\n", n(CARDERWHEEL_CALL_STACK));
     printf("a run makes at most %s steps\n", n(CARDERWHEEL_STEPS));
     printf("After %s such runs the next is refused with 11.\n", n(CARDERWHEEL_FRAMES));

@@ -18,9 +18,12 @@ pub struct Coverage {
     pub steps: usize,
     pub most: usize,
     pub runs: usize,
-    /// Texts of numbers that the runs made, those of them that 000 writes otherwise, and the runs in which none of those was made: they are compared with 000 unchanged.
+    /// Texts of numbers that the runs made, and those of them that 000 writes otherwise.
     pub texts: [usize; 2],
+    /// The runs that made none of the latter, which are compared with 000 unchanged, those that made one, and those that an added limit ended.
     pub unchanged: usize,
+    pub amended: usize,
+    pub limited: usize,
     /// The instructions that made such a text, by their opcodes, and the text calls.
     pub amending: Vec<usize>,
     pub amended_calls: usize,
@@ -28,7 +31,7 @@ pub struct Coverage {
 
 impl Coverage {
     pub fn new() -> Coverage {
-        Coverage { opcodes: vec![0; 256], ends: vec![0; 64], run_out: 0, caught: 0, steps: 0, most: 0, runs: 0, texts: [0; 2], unchanged: 0, amending: vec![0; 256], amended_calls: 0 }
+        Coverage { opcodes: vec![0; 256], ends: vec![0; 64], run_out: 0, caught: 0, steps: 0, most: 0, runs: 0, texts: [0; 2], unchanged: 0, amended: 0, limited: 0, amending: vec![0; 256], amended_calls: 0 }
     }
 
     pub fn add(&mut self, c: &Coverage) {
@@ -46,6 +49,8 @@ impl Coverage {
         self.most = self.most.max(c.steps);
         self.texts = [self.texts[0] + c.texts[0], self.texts[1] + c.texts[1]];
         self.unchanged += c.unchanged;
+        self.amended += c.amended;
+        self.limited += c.limited;
         self.amended_calls += c.amended_calls;
     }
 
@@ -60,13 +65,15 @@ impl Coverage {
         eprintln!("ends (number:times): {}", ends.join(" "));
         let amending: Vec<String> = (0..256).filter(|b| self.amending[*b] > 0).map(|b| format!("{}:{}", b, self.amending[b])).collect();
         eprintln!(
-            "texts of numbers: {}, of which 000 writes {} otherwise (opcode:times): {}; text calls of such a number: {}; runs with no such text, compared with 000 unchanged: {} of {}",
+            "texts of numbers: {}, of which 000 writes {} otherwise (opcode:times): {}; text calls of such a number: {}",
             self.texts[0],
             self.texts[1],
             amending.join(" "),
-            self.amended_calls,
-            self.unchanged,
-            self.runs
+            self.amended_calls
+        );
+        eprintln!(
+            "runs: {}; {} without such a text, compared with 000 unchanged; {} with one; {} at an added limit",
+            self.runs, self.unchanged, self.amended, self.limited
         );
     }
 }
@@ -320,6 +327,7 @@ impl Judges {
             Ok(o) => self.ended(sample, image, o, seen),
             Err(Stopped::Past(step, question)) => {
                 self.stepper = before;
+                seen.limited += 1;
                 self.refused(sample, image, step, question)
             }
             Err(Stopped::Long) => return None,
@@ -344,6 +352,7 @@ impl Judges {
             seen.unchanged += 1;
             assert_eq!(plain::engine::end(&self.unchanged.run(&chunk), &o.thrown), end, "000 unchanged ends otherwise");
         } else {
+            seen.amended += 1;
             self.unchanged = plain::engine::Engine::holding(&self.stepper.engine.vm);
         }
         assert_eq!(self.unchanged_state(), state, "000 unchanged holds something else");

@@ -30,7 +30,7 @@ ghost use Rattle.arrays.specs.Sets.{Sets, SetsIn, Stretches, Settles};
 ghost use Rattle.machine.specs.Instruction.{exactly};
 ghost use Rattle.machine.specs.Number.{decimal};
 ghost use Rattle.machine.specs.State.{operandLimit};
-ghost use Rattle.number.specs.Format.{longestText};
+ghost use Rattle.machine.specs.NumberText.{longestText};
 ghost use Rattle.value.specs.Words.{valueOf, valueAt};
 ghost use Rattle.stacks.specs.Layout.{stackWords};
 ghost use Rattle.stacks.specs.View.{arguments};

@@ -9,7 +9,7 @@ use Rattle.machine.specs.State.{fresh, limit, handlerStore}
 use Rattle.machine.specs.Value.{number}
 use Rattle.machine.specs.Act.{plain}
 use Rattle.machine.specs.Number as N
-use Rattle.machine.specs.NumberText.{numberAnswer}
+use Rattle.machine.specs.NumberText.{longestText, numberAnswer}
 use Rattle.machine.specs.Host as H
 use Rattle.machine.specs.Host.{history}
 use Rattle.machine.specs.Demand3.{All}
@@ -42,6 +42,6 @@ module _ {c c′ : Counts} {g g′ : Tables} {m m′ : Mem} {b b′ : List ℕ} 
       sym (k .machine (λ q. tt) .0) ∙ ap (λ (t : Bool). H.performOn t (H.text (plain (number n)) (length b)) (stateIn c g m) .answer) l
       ∙ number-call n (length b) (stateIn c g m)
 
-  -- A buffer of 18 bytes has room for every number's text, which stands at its start then.
-  pub number-written : n < 2 ^ 64 → 18 ≤ length b → (a ≡ H.wrote (N.formatJsNumber n)) × (b′ ≡ overwrite b 0 (N.formatJsNumber n))
+  -- A buffer for the longest text has room for every number's, which stands at its start then.
+  pub number-written : n < 2 ^ 64 → longestText ≤ length b → (a ≡ H.wrote (N.formatJsNumber n)) × (b′ ≡ overwrite b 0 (N.formatJsNumber n))
   number-written h r = let e = number-answered ∙ number-fits n (length b) h r in (e, f .bytes ∙ ap (λ (x : H.Answer). bufferBy x b) e)

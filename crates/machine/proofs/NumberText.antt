@@ -12,7 +12,7 @@ use lib.ListN.{length, length-append, length-reverse}
 use borrow.Author.Tests.{eqb-true, eqb-false, eq-eqb, ne-eqb, leb-true, leb-false, le-leb, lt-leb, ltb-true, ltb-false, lt-ltb, le-ltb}
 use Rattle.machine.specs.Basic.{if_then_else_}
 use Rattle.machine.specs.Number as N
-use Rattle.machine.specs.NumberText.{floorText, originalText, amended, numberAnswer}
+use Rattle.machine.specs.NumberText.{floorText, originalText, amended, longestText, numberAnswer}
 use Rattle.machine.specs.Value.{number}
 use Rattle.machine.specs.State.{State}
 use Rattle.machine.specs.Act.{plain}
@@ -63,7 +63,7 @@ fraction-some m n =
 pub fraction-none : (m : ℕ) → N.millionths m ≡ 0 → N.fraction m ≡ []
 fraction-none m e = ap (λ (n : ℕ). reverse (N.cutZeros (reverse (N.padded 6 n [])))) e
 
--- No text of a number has more than 18 bytes, and -2147483647.999999 has as many.
+-- No text of a number is longer, and -2147483647.999999 is as long.
 
 abbrev Shorter : (f n : ℕ) → List ℕ → Type 0
 Shorter f n bs = (j : ℕ) → n / 10 < 10 ^ suc j → length (N.decimalOnto f (n / 10) ((48 + n % 10) ∷ bs)) ≤ suc j + suc (length bs)
@@ -108,10 +108,10 @@ magnitude-most a h = go (N.isNegative a) refl
     go true e = let l = leb-true (2 ^ 63) a e in omega arith
     go false e = let l = leb-false (2 ^ 63) a e in omega arith
 
-pub text-length : (a : ℕ) → a < 2 ^ 64 → length (N.formatJsNumber a) ≤ 18
+pub text-length : (a : ℕ) → a < 2 ^ 64 → length (N.formatJsNumber a) ≤ longestText
 text-length a h = go (eqb a N.nan)
   where
-    go : (t : Bool) → length (if t then 78 ∷ 97 ∷ 78 ∷ [] else N.minusSign (N.isNegative a && not (N.allZero (N.magnitude a))) ++ N.magnitudeText (N.magnitude a)) ≤ 18
+    go : (t : Bool) → length (if t then 78 ∷ 97 ∷ 78 ∷ [] else N.minusSign (N.isNegative a && not (N.allZero (N.magnitude a))) ++ N.magnitudeText (N.magnitude a)) ≤ longestText
     go true = omega arith
     go false =
         let m = N.magnitude a in
@@ -126,7 +126,7 @@ text-length a h = go (eqb a N.nan)
           fraction-length m,
         )
 
-pub longest : length (N.formatJsNumber (2 ^ 63 + 1)) ≡ 18
+pub longest : length (N.formatJsNumber (2 ^ 63 + 1)) ≡ longestText
 longest = refl
 
 -- The text by sign and magnitude
@@ -318,7 +318,7 @@ same-text a h = go (eqb a N.nan) refl
     go true e = ((λ q. rw e), (λ q. rw e))
     go false e = same-not-nan a h (eqb-false a N.nan e)
 
--- The text call of a number, in every state: its text, or 31. A buffer of 18 bytes is always enough.
+-- The text call of a number, in every state: its text, or 31. A buffer for the longest text is always enough.
 
 pub number-call : (a room : ℕ) (s : State) → H.perform (H.text (plain (number a)) room) s .answer ≡ numberAnswer a room
 number-call a room s = go (leb (length (N.formatJsNumber a)) room)
@@ -327,6 +327,6 @@ number-call a room s = go (leb (length (N.formatJsNumber a)) room)
     go true = refl
     go false = refl
 
-pub number-fits : (a room : ℕ) → a < 2 ^ 64 → 18 ≤ room → numberAnswer a room ≡ H.wrote (N.formatJsNumber a)
+pub number-fits : (a room : ℕ) → a < 2 ^ 64 → longestText ≤ room → numberAnswer a room ≡ H.wrote (N.formatJsNumber a)
 number-fits a room h l =
     ap (λ (b : Bool). if b then H.wrote (N.formatJsNumber a) else H.refusal 31) (le-leb (length (N.formatJsNumber a)) room (omega (arith, text-length a h)))

@@ -23,6 +23,10 @@ originalText a =
 abbrev pub amended : ℕ → Bool
 amended a = not (eqb a N.nan) && not (eqb (a % 2 ^ 32) 0) && (N.isNegative a || eqb (N.millionths a) 0)
 
+-- The most bytes that the text of a number has (proofs/NumberText).
+abbrev pub longestText : ℕ
+longestText = 18
+
 -- The text call of a number, with a buffer of so many bytes.
 abbrev pub numberAnswer : ℕ → ℕ → Answer
 numberAnswer a room = if leb (length (N.formatJsNumber a)) room then wrote (N.formatJsNumber a) else refusal 31

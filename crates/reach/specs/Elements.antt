@@ -15,8 +15,9 @@ use Rattle.machine.specs.Act as A
 use Rattle.machine.specs.Number as N
 use Rattle.machine.specs.Instruction as I
 use Rattle.machine.specs.Convert.{toJsString, lengthKey, worth, digitsKey, arrayKey, lengthFloor}
+use Rattle.machine.specs.NumberText.{longestText}
 use Rattle.machine.proofs.NumberText.{decimal-last, decimal-more, text-length, whole-text}
-use Rattle.number.specs.Format.{longestText, Formats}
+use Rattle.number.specs.Format.{Formats}
 use Rattle.value.specs.Lists.{bytesOf, rowOf, row-length}
 use Rattle.value.specs.Words.{valueOf, valueAt, decodeOf, Holds}
 use Rattle.value.specs.declared.Value.{Value}

@@ -9,7 +9,7 @@ use mathlib.Core.Bool.{true}
 use Rattle.machine.specs.Value as M
 use Rattle.machine.specs.Image as Im
 use Rattle.machine.specs.Instruction as I
-use Rattle.number.specs.Format.{longestText}
+use Rattle.machine.specs.NumberText.{longestText}
 use Rattle.reader.specs.Constants.{constantOf}
 use Rattle.reader.specs.declared.Constant.{Constant}
 use Rattle.reader.specs.declared.Constant.the-variants.{Str}

@@ -18,7 +18,7 @@ use Rattle.machine.specs.Instruction as I
 use Rattle.value.specs.Words.{valueOf}
 use Rattle.value.specs.declared.Value.{Value}
 use Rattle.value.specs.declared.Value.the-variants.{Number}
-use Rattle.number.specs.Format.{longestText}
+use Rattle.machine.specs.NumberText.{longestText}
 use Rattle.reader.specs.Constants.{constantOf}
 use Rattle.reader.specs.declared.Constant.{Constant}
 use Rattle.reader.specs.declared.Constant.the-variants.{Str, Function}

@@ -22,7 +22,7 @@ ghost use lib.ListN.{length, getElem?};
 ghost use Rattle.machine.specs.Instruction.{LoadConst, CreateClosure, Add, getStringConstant};
 ghost use Rattle.machine.specs.Convert.{isText};
 ghost use Rattle.value.specs.Words.{valueOf};
-ghost use Rattle.number.specs.Format.{longestText};
+ghost use Rattle.machine.specs.NumberText.{longestText};
 ghost use Rattle.texts.specs.Sources.{InUse};
 ghost use Rattle.texts.specs.Spells.{Spells};
 ghost use Rattle.image.specs.View.{constantsOf};

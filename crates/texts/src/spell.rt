@@ -17,7 +17,7 @@ ghost use mathlib.Core.List.{_++_};
 ghost use Prim.Native.Nat.{_+_, _≤_};
 ghost use lib.ListN.{length};
 ghost use Rattle.machine.specs.Convert.{toJsString, jsTypeof};
-ghost use Rattle.number.specs.Format.{longestText};
+ghost use Rattle.machine.specs.NumberText.{longestText};
 ghost use Rattle.number.specs.Layout.{Wrote};
 ghost use Rattle.value.specs.Words.{valueOf};
 ghost use Rattle.texts.specs.Sources.{InUse, storesOf};
