@@ -264,7 +264,7 @@ tail : List ℕ → List ℕ
 tail [] = []
 tail (b ∷ bs) = bs
 
--- The texts differ on exactly the numbers of reading 9.
+-- The texts differ on exactly the numbers that `amended` names.
 
 module _ (a : ℕ) (h : a < 2 ^ 64) (n : a ≡ N.nan → ⊥) where
   -- a negative fraction: the digits before the point are one less than the floor's

@@ -165,7 +165,7 @@ pub twelve : Twelve
 unfolding stepLimit
 twelve = record { last = refl; refused = refl; cut = refl }
 
--- Reading 8: six digits are cut off the magnitude, and zero is judged after the cut. So raw 1 and raw -1 name element 0, and one half names no element.
+-- Six digits are cut off the magnitude, and zero is judged after the cut. So raw 1 and raw -1 name element 0, and one half names no element.
 abbrev element : ℕ → State
 element n = exec (instruction 7) (setOperands (Value.number n ∷ arrayMade .operands) arrayMade) .state
 

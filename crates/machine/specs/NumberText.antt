@@ -19,7 +19,7 @@ originalText a =
     if eqb (a % 2 ^ 32) 0 then floorText a else
     floorText a ++ 46 ∷ N.fraction a
 
--- Reading 9: negative fractions, and points that no digit would follow.
+-- Negative fractions, and points that no digit would follow.
 abbrev pub amended : ℕ → Bool
 amended a = not (eqb a N.nan) && not (eqb (a % 2 ^ 32) 0) && (N.isNegative a || eqb (N.millionths a) 0)
 
