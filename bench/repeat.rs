@@ -4,7 +4,7 @@
 
 use crate::plain::js_vm::JsVm;
 use crate::limits;
-use crate::runs::{Judges, Coverage};
+use crate::runs::{Coverage, Judges};
 use crate::sample::{Image, Sample};
 use std::io::Read;
 

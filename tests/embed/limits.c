@@ -29,7 +29,7 @@ static void limit(const char *name, uint64_t most, uint64_t *count) {
     if (at == 33 || above != 33) differs(name);
 }
 
-/* Of the least number but one, whose text is the longest (proved of crate number). */
+/* Of the least number but one, whose text is the longest (machine/proofs/NumberText, `longest`). */
 static void number_bytes(void) {
     static const carderwheel_value least = {CARDERWHEEL_NUMBER, 0x8000000000000001, 0};
     uint8_t buffer[CARDERWHEEL_NUMBER_BYTES];

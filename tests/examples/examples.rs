@@ -2,7 +2,7 @@
 //! standard output, or with `--into FOLDER` to FOLDER/NAME.out.
 
 use crate::limits;
-use crate::runs::{Judges, Coverage};
+use crate::runs::{Coverage, Judges};
 use crate::sample::{Image, Sample};
 use std::path::Path;
 

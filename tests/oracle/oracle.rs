@@ -2,7 +2,7 @@
 
 use crate::images;
 use crate::limits;
-use crate::runs::{Judges, Coverage};
+use crate::runs::{Coverage, Judges};
 use crate::sample::{Action, Given, Plain, Rng, Sample};
 use crate::words::Words;
 use crate::{amended, specials};

@@ -2,7 +2,7 @@
 
 use crate::amended::engine::{counted, given, value, word};
 use crate::limits;
-use crate::runs::{Judges, Coverage};
+use crate::runs::{Coverage, Judges};
 use crate::sample::{Action, Const, Given, Plain, Rng, Sample};
 use crate::words::Words;
 use crate::{images, specials};

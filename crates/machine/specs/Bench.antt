@@ -6,6 +6,7 @@ use native.Mathlib.Omega.{arith}
 use lib.ListN.{length, replicate}
 use Rattle.machine.specs.Ascii.{ascii}
 use Rattle.machine.specs.Number as N
+use Rattle.machine.specs.NumberText.{originalText}
 use Rattle.machine.specs.Value.{Value}
 use Rattle.machine.specs.State.{State, Store, bytes, fresh, property}
 use Rattle.machine.specs.Convert.{lengthKey, toJsString}
@@ -179,6 +180,9 @@ pub record Fractions : Type 0 where
   pub least : N.formatJsNumber (2 ^ 63) ≡ ascii "-2147483648"
   pub most : N.formatJsNumber (2 ^ 63 - 2) ≡ ascii "2147483647.999999"
   pub notANumber : N.formatJsNumber N.nan ≡ ascii "NaN"
+  -- 000's texts, by the row as it stood
+  pub originalHalf : originalText (minus (2 ^ 31)) ≡ ascii "-1.5"
+  pub originalRaw : originalText 1 ≡ ascii "0."
   pub rawElement : element 1 .operands ≡ Value.number 5 ∷ []
   pub minusRawElement : element (minus 1) .operands ≡ Value.number 5 ∷ []
   pub halfElement : element (2 ^ 31) .operands ≡ Value.undefined ∷ []
@@ -195,6 +199,8 @@ fractions = record {
   least = refl;
   most = refl;
   notANumber = refl;
+  originalHalf = refl;
+  originalRaw = refl;
   rawElement = refl;
   minusRawElement = refl;
   halfElement = refl;
