@@ -10,14 +10,14 @@ use lib.ListN.{length, take, drop, length-append, length-drop, length-take, leng
 use Rattle.machine.specs.Basic.{if_then_else_, lowest, sumOf}
 use Rattle.machine.specs.Value.{Value, Text}
 use Rattle.machine.specs.Image.{Template}
-use Rattle.machine.specs.State.{State, Bytes, bytes, Frame, Handler, Function, Kind, array, Property, Global, fresh, topAt, endOf, changeFirst, isNamed, hasProperty, hasGlobal}
+use Rattle.machine.specs.State.{State, Bytes, bytes, Frame, Handler, Function, Kind, array, Property, Global, fresh, endOf, changeFirst, isNamed, hasProperty, hasGlobal}
 use Rattle.machine.specs.State.{Store, codeStore, imageStore, frameStore, slotStore, handlerStore, functionStore, objectStore, propertyStore, globalStore, textStore, outputStore, limit, used, operandLimit}
 use Rattle.machine.specs.Fields as S
 use Rattle.machine.specs.Act as A
 use Rattle.machine.specs.Act.{Act, apply, error, needs, addText, addProperty, addProperties}
 use Rattle.machine.specs.Program.{fits}
 use Rattle.machine.specs.Demand3.{All}
-use Rattle.machine.proofs.Sound.{push-room, length-rest}
+use Rattle.machine.proofs.Sound.{push-room, length-rest, length-topAt}
 
 pub record Bounded (s : State) : Type 0 where
   pub code : length (s .code) ≤ limit codeStore
@@ -90,10 +90,6 @@ module _ (s : State) (b : Bounded s) where
 fit : (x y : ℕ) → leb x y ≡ true → x ≤ y
 fit x y e = leb→le x y (rw e tt)
 
-length-topAt : (p : ℕ) (fs : List Frame) → length (topAt p fs) ≡ length fs
-length-topAt p [] = refl
-length-topAt p (f ∷ fs) = refl
-
 length-change : {A : Type 0} (t : A → Bool) (f : A → A) (xs : List A) → length (changeFirst t f xs) ≡ length xs
 length-change t f [] = refl
 length-change t f (x ∷ xs) = go (t x) (length-change t f xs)
@@ -106,6 +102,14 @@ keep-frames : (fs : List Frame) (s : State) → Bounded s → length fs ≤ limi
 keep-frames fs s b l =
     let k = length-take (endOf fs) (s .slots) in let m = b .slots in
     of-frames (S.setSlots (take (endOf fs) (s .slots)) s) (of-slots s b (take (endOf fs) (s .slots)) (omega arith)) fs l
+
+length-pending : (n : ℕ) (hs : List Handler) → length (A.pendingOver n hs) ≤ length hs
+length-pending n [] = omega arith
+length-pending n (h ∷ hs) = go (leb (h .frames) n) (length-pending n hs)
+  where
+    go : (b : Bool) → length (A.pendingOver n hs) ≤ length hs → length (if b then h ∷ hs else A.pendingOver n hs) ≤ suc (length hs)
+    go true l = omega arith
+    go false l = omega arith
 
 b-store : (i : ℕ) (v : Value) (fs : List Frame) (s : State) → length fs ≤ limit frameStore → length (s .slots) + A.lackingTop i fs ≤ limit slotStore → Bounded s → Bounded (A.storeIn i v fs s)
 b-store i v [] s n l b = b
@@ -164,7 +168,9 @@ bounded (A.jump p) s e f b = let m = b .frames in of-frames s b _ (simp length-t
 bounded (A.pushFrame i t vs) s e f b =
     let g : length (s .frames) + 1 ≤ limit frameStore = fit _ _ (f .0) in let h : length (s .slots) + length vs ≤ limit slotStore = fit _ _ (f .1 .0) in
     of-frames _ (of-slots s b _ (simp length-append h)) _ (omega arith)
-bounded A.popFrame s e f b = let h = length-rest (s .frames) in let m = b .frames in keep-frames (A.rest (s .frames)) s b (omega arith)
+bounded A.popFrame s e f b =
+    let h = length-rest (s .frames) in let m = b .frames in let p = length-pending (length (A.rest (s .frames))) (s .handlers) in let q = b .handlers in
+    of-handlers _ (keep-frames (A.rest (s .frames)) s b (omega arith)) _ (omega arith)
 bounded (A.store i v) s e f b = b-store i v (s .frames) s (b .frames) (fit _ _ (f .0)) b
 bounded (A.pushHandler p) s e f b = let g : length (s .handlers) + 1 ≤ limit handlerStore = fit _ _ (f .0) in of-handlers s b _ (omega arith)
 bounded A.popHandler s e f b = let h = length-rest (s .handlers) in let m = b .handlers in of-handlers s b _ (omega arith)

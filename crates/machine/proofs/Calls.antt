@@ -21,7 +21,7 @@ use Rattle.machine.specs.Host as H
 use Rattle.machine.specs.Host.{Call, Answer, Called, perform, performed, settledCall, refusedCall, accepted, simply, questions, makes, ask, refusalRead, history, leaves}
 use Rattle.machine.specs.Tally.{Tally, count, counted, nothing}
 use Rattle.machine.specs.Demand3 as D
-use Rattle.machine.specs.Demand3.{All, Enters, Right, RightSteps, RightCalls, Orderly, OrderlyCall, tallySteps, tallyAccepted, tallyStart, broughtBy, handleOf, handle, heldStart, heldCall, heldAccepted, unlessRefusal, TextsSteps, TextsCalls, refusedLast, refusedAtLast, RanFull, Honest, Summed, storedBytes, keptCall, StoredCalls, ThrowsSteps, ThrowsCalls, Demand3}
+use Rattle.machine.specs.Demand3.{All, Enters, Right, RightSteps, RightCalls, Orderly, OrderlyCall, tallySteps, tallyAccepted, tallyStart, broughtBy, handleOf, handle, heldStart, heldCall, heldAccepted, unlessRefusal, TextsSteps, TextsCalls, refusedLast, refusedAtLast, RanFull, Honest, Summed, storedBytes, keptCall, StoredCalls, PendingSteps, PendingCalls, Drops, ThrowsSteps, ThrowsCalls, Demand3}
 use Rattle.machine.proofs.Images as Im
 use Rattle.machine.proofs.Texts.{Holds, all-append, held-grows}
 use Rattle.machine.proofs.Sound.{sound-fresh}
@@ -233,6 +233,8 @@ pub record KeptCall (t : Tally) (hs : List Held) (d : Called) : Type 0 where
   pub held : All (Holds (bytes (d .after))) (heldCall hs d)
   pub honest : Honest d
   pub summed : Summed d
+  pub pending : PendingSteps (tallyStart t d) (d .steps)
+  pub dropped : All Drops (d .steps)
   pub threw : ThrowsSteps (tallyStart t d) (d .steps)
 
 -- An answer that is no refusal, and not a run's.
@@ -277,6 +279,8 @@ module _ (s : State) (t : Tally) (hs : List Held) (f : Fine s t) (hh : All (Hold
       wentOn = tt;
     };
     summed = λ e m q. let z : _≡_ {A = ℕ} 0 1 = cc in absurd (omega arith);
+    pending = tt;
+    dropped = tt;
     threw = tt;
   }
 
@@ -319,6 +323,8 @@ module _ (s : State) (t : Tally) (hs : List Held) (f : Fine s t) (hh : All (Hold
           wentOn = tt;
         };
         summed = λ e n z. absurd (subst Plain z p);
+        pending = tt;
+        dropped = tt;
         threw = tt;
       }
 
@@ -342,6 +348,8 @@ module _ (s : State) (t : Tally) (hs : List Held) (f : Fine s t) (hh : All (Hold
           wentOn = l .wentOn;
         };
         summed = λ e n z. let y = l .summed in let x : r .made ≡ n = cc in omega arith;
+        pending = l .pending;
+        dropped = l .dropped;
         threw = l .threw;
       }
 
@@ -368,6 +376,8 @@ module _ (s : State) (t : Tally) (hs : List Held) (f : Fine s t) (hh : All (Hold
       wentOn = tt;
     };
     summed = λ e m z. let y : _≡_ {A = ℕ} 0 1 = cc in absurd (omega arith);
+    pending = tt;
+    dropped = tt;
     threw = tt;
   }
 
@@ -395,10 +405,12 @@ pub record KeptCalls (s : State) (t : Tally) (hs : List Held) (calls : List Call
   pub stored : (ks : List Held) → t .text ≡ storedBytes ks → StoredCalls t ks (history s calls)
   pub refusals : All Honest (history s calls)
   pub sums : All Summed (history s calls)
+  pub pending : PendingCalls t (history s calls)
+  pub drops : All (λ d. All Drops (d .steps)) (history s calls)
   pub throws : ThrowsCalls t (history s calls)
 
 kept-calls : (calls : List Call) (s : State) (t : Tally) (hs : List Held) → Fine s t → All (Holds (bytes s)) hs → KeptCalls s t hs calls
-kept-calls [] s t hs f h = record { slots = tt; texts = tt; space = tt; stored = λ ks e. tt; refusals = tt; sums = tt; throws = tt }
+kept-calls [] s t hs f h = record { slots = tt; texts = tt; space = tt; stored = λ ks e. tt; refusals = tt; sums = tt; pending = tt; drops = tt; throws = tt }
 kept-calls (c ∷ cs) s t hs f h =
     let k = kept-call s t hs f h c in
     let d = perform c s in
@@ -410,6 +422,8 @@ kept-calls (c ∷ cs) s t hs f h =
       stored = λ ks e. (k .stored ks e, l .stored (keptCall ks d) (k .stored ks e));
       refusals = (k .honest, l .refusals);
       sums = (k .summed, l .sums);
+      pending = (k .pending, k .fine .agrees .handlers, l .pending);
+      drops = (k .dropped, l .drops);
       throws = (k .threw, l .throws);
     }
 
@@ -417,4 +431,15 @@ kept-calls (c ∷ cs) s t hs f h =
 pub demand3 : (calls : List Call) → Demand3 calls
 demand3 calls =
     let k = kept-calls calls fresh nothing [] fine-fresh tt in
-    record { slots = k .slots; texts = k .texts; space = k .space; stored = k .stored [] refl; refusals = k .refusals; sums = k .sums; throws = k .throws; tries = calls-each Enters enters calls fresh }
+    record {
+      slots = k .slots;
+      texts = k .texts;
+      space = k .space;
+      stored = k .stored [] refl;
+      refusals = k .refusals;
+      sums = k .sums;
+      pending = k .pending;
+      drops = k .drops;
+      throws = k .throws;
+      tries = calls-each Enters enters calls fresh;
+    }

@@ -1,5 +1,5 @@
 -- How an EnterTry comes out, what one that goes on saves, and what holds of each step by itself, over every list of calls. Assumes nothing.
-use mathlib.Core.Path.{_≡_, refl, sym, ap, ap₂, _∙_, subst}
+use mathlib.Core.Path.{_≡_, refl, sym, ap, ap₂, _∙_}
 use mathlib.Core.Bool.{Bool, true, false}
 use mathlib.Core.Option.{Option, none, some}
 use mathlib.Core.List.{List, [], _∷_}
@@ -11,19 +11,16 @@ use lib.ListN.{length, getD}
 use Rattle.machine.specs.Basic.{if_then_else_}
 use Rattle.machine.specs.Error.{ipOutOfBounds}
 use Rattle.machine.specs.State.{State, Frame, handlerStore, limit, running, fresh}
-use Rattle.machine.specs.Fields as S
 use Rattle.machine.specs.Act as A
 use Rattle.machine.specs.Act.{Act, Need, need, apply}
 use Rattle.machine.specs.Program.{Program, next, make, end, failed, How, went, ended, refused, did, Outcome, noting, fits, answered, exec}
 use Rattle.machine.specs.Instruction.{fetch, instruction}
-use Rattle.machine.specs.Run.{Kind, begun, noFrame, kindIn, kindOf, body, Step, step, after, settled, Ran, goOn, steps, stepLimit}
+use Rattle.machine.specs.Run.{begun, kindOf, body, Step, step, after, settled, Ran, goOn, steps, stepLimit}
 use Rattle.machine.specs.Host.{Call, questions, makes, performed, perform, settledCall, accepted, history}
 use Rattle.machine.specs.Demand3.{All, Enters, wordAt}
 use Rattle.machine.specs.Tries.{tried, Tried}
-use Rattle.machine.proofs.Throw.{kind-within}
-
-ended-not : {e : _} → ended e ≡ went → ⊥
-ended-not q = let z : _≡_ {A = ℕ} 0 1 = cc in omega arith
+use Rattle.machine.proofs.Begun.{ended-not, in-frame}
+use Rattle.machine.proofs.Begun as B
 
 refused-not : {q : _} → refused q ≡ went → ⊥
 refused-not e = let z : _≡_ {A = ℕ} 0 1 = cc in omega arith
@@ -66,7 +63,7 @@ both i n left false true e f =
 
 module _ (s₀ : State) (f : Frame) (fs : List Frame) where
   abbrev here : State
-  here = S.setFrames (f ∷ fs) s₀
+  here = B.here s₀ f fs
 
   abbrev at : ℕ
   at = running here f .at
@@ -75,7 +72,7 @@ module _ (s₀ : State) (f : Frame) (fs : List Frame) where
   size = running here f .size
 
   abbrev s₁ : State
-  s₁ = apply (A.jump (f .ip + 1)) here
+  s₁ = B.fetched s₀ f fs
 
   abbrev s₂ : State
   s₂ = apply (A.jump (f .ip + 1 + 1)) s₁
@@ -89,12 +86,6 @@ module _ (s₀ : State) (f : Frame) (fs : List Frame) where
   abbrev saving : Program
   saving = make (A.pushHandler word) next
 
-  begins : kindOf here ≡ begun 75 → exec (body (kindOf here)) here ≡ noting (did (A.jump (f .ip + 1)) []) (exec (instruction 75) s₁)
-  begins e =
-      let w = kind-within 75 (ltb (f .ip) size) (getD (s₀ .code) (at + f .ip) 0) e in
-      ap (λ (k : Kind). exec (body k) here) e
-      ∙ ap₂ (λ (x : Bool) (y : ℕ). exec (if x then make (A.jump (f .ip + 1)) (instruction y) else end (failed ipOutOfBounds)) here) (w .0) (w .1)
-
   -- what is left to do when the opcode and a byte are fetched
   abbrev second : Program
   second = fetch λ lo. make (A.pushHandler (getD (s₀ .code) (at + (f .ip + 1)) 0 * 256 + lo)) next
@@ -102,7 +93,7 @@ module _ (s₀ : State) (f : Frame) (fs : List Frame) where
   entered : kindOf here ≡ begun 75 → exec (body (kindOf here)) here .how ≡ went
       → exec (body (kindOf here)) here .state ≡ apply (A.pushHandler word) s₃
   entered e h =
-      let E₀ = begins e in
+      let E₀ = B.begins s₀ f fs 75 e in
       let h₁ : exec (instruction 75) s₁ .how ≡ went = sym (ap (λ (o : Outcome). o .how) E₀) ∙ h in
       let E₁ = fetched s₁ (f .ip + 1 + 1) second (ltb (f .ip + 1) size) h₁ in
       let h₂ = sym (ap (λ (o : Outcome). o .how) E₁) ∙ h₁ in
@@ -121,26 +112,17 @@ module _ (s₀ : State) (f : Frame) (fs : List Frame) where
       let E₁ = fetched-how s₁ (f .ip + 1 + 1) second (ltb (f .ip + 1) size) in
       let E₂ = fetched-how s₂ (f .ip + 1 + 1 + 1) saving (ltb (f .ip + 1 + 1) size) in
       let E₃ : exec saving s₃ .how ≡ tried true left = answered-how left (A.pushHandler word) s₃ _ refl in
-      ap (λ (o : Outcome). o .how) (begins e) ∙ E₁
+      ap (λ (o : Outcome). o .how) (B.begins s₀ f fs 75 e) ∙ E₁
       ∙ ap (λ (h : How). if ltb (f .ip + 1) size then h else cut) (E₂ ∙ ap (λ (h : How). if ltb (f .ip + 1 + 1) size then h else cut) E₃)
       ∙ both (f .ip) size left (ltb (f .ip + 1) size) (ltb (f .ip + 1 + 1) size) refl refl
       ∙ (let p : f .ip + 1 + 1 ≡ f .ip + 2 = omega arith in let q : length (s₀ .handlers) + 1 ≡ suc (length (s₀ .handlers)) = omega arith in
       ap₂ (λ (i j : ℕ). tried (ltb i size) (leb j (limit handlerStore))) p q)
 
--- An EnterTry has a frame, so what holds of each step with one, and of each that is none, holds of every step.
-module _ (P : Step → Type 0) (other : (s : State) → (kindOf s ≡ begun 75 → ⊥) → P (step s))
-    (framed : (s : State) (f : Frame) (fs : List Frame) → P (step (S.setFrames (f ∷ fs) s))) where
-  in-frame : (s : State) (fs : List Frame) → s .frames ≡ fs → P (step s)
-  in-frame s [] ef =
-      other s (λ e. let z : _≡_ {A = Kind} noFrame (begun 75) = ap (kindIn s) (sym ef) ∙ e in let y : _≡_ {A = ℕ} 0 1 = cc in omega arith)
-  in-frame s (f ∷ fs) ef =
-      let σ : s ≡ S.setFrames (f ∷ fs) s = λ i. S.setFrames (ef i) s in subst (λ (x : State). P (step x)) (sym σ) (framed s f fs)
-
 pub enters : (s : State) → Enters (step s)
-enters s = in-frame Enters (λ t n e. absurd (n e)) enters-at s (s .frames) refl
+enters s e = in-frame 75 (λ t. Enters (step t)) enters-at s e e
 
 pub tries : (s : State) → Tried (step s)
-tries s = in-frame Tried (λ t n e. absurd (n e)) tries-at s (s .frames) refl
+tries s e = in-frame 75 (λ t. Tried (step t)) tries-at s e e
 
 -- What holds of a step from every state holds of each step of a run, of a call, and of every list of calls.
 module _ (P : Step → Type 0) (each : (s : State) → P (step s)) where

@@ -12,7 +12,9 @@ pub mod Bounded
 pub mod Amounts
 pub mod Programs
 pub mod Charged
+pub mod Begun
 pub mod Throw
+pub mod Leave
 pub mod Enter
 pub mod Steps
 pub mod Calls

@@ -7,9 +7,10 @@ use Prim.Native.Nat.{ℕ, zero, suc, _+_, _-_, _≤_, _<_, min, max}
 use native.Mathlib.Omega.{arith}
 use lib.Dec.{leb, ltb, eqb, T, ltb→lt}
 use lib.ListN.{length, take, drop, length-append, length-drop, length-map}
+use borrow.Author.Tests.{leb-true, le-leb}
 use Rattle.machine.specs.Basic.{if_then_else_, same, lowest, sum}
 use Rattle.machine.specs.Value.{Value, Text}
-use Rattle.machine.specs.State.{State, Bytes, bytes, Frame, Handler, Property, Name, console, kept, Global, array, Kind, bytesOf, nameBytes, isPair, isNamed, any, changeFirst, hasProperty, hasGlobal, nextText, fresh}
+use Rattle.machine.specs.State.{State, Bytes, bytes, Frame, Handler, Property, Name, console, kept, Global, array, Kind, bytesOf, nameBytes, isPair, isNamed, any, changeFirst, hasProperty, hasGlobal, nextText, fresh, topAt, endOf}
 use Rattle.machine.specs.State.{Store, codeStore, imageStore, frameStore, slotStore, handlerStore, functionStore, objectStore, propertyStore, globalStore, textStore, outputStore, used, operandLimit}
 use Rattle.machine.specs.Error.{JsVmError, stackOverflow, noCallFrame}
 use Rattle.machine.specs.Fields as S
@@ -17,7 +18,7 @@ use Rattle.machine.specs.Act as A
 use Rattle.machine.specs.Act.{Act, apply, error, addText, addProperty, addProperties}
 use Rattle.machine.specs.Tally as T
 use Rattle.machine.specs.Tally.{Tally, Pair, count, useOf, nothing}
-use Rattle.machine.specs.Demand3.{All, Contiguous, savedBy}
+use Rattle.machine.specs.Demand3.{All, Contiguous, savedBy, savedWithin}
 use Rattle.machine.proofs.Texts.{Inside, Grows, grows, grows-text, slice-new, all-append, all-map}
 use Rattle.machine.proofs.Frames as F
 use Rattle.machine.proofs.Frames.{Frames}
@@ -67,6 +68,50 @@ module _ (m m′ : Bytes) (g : Grows m m′) where
     agree = names-same gs (k .inside) ∙ k .agree;
   }
 
+-- A newer handler saved at least the frames of an older one, the newest at most those that stand, and each at least its own.
+abbrev pub Nested : ℕ → List Handler → Type 0
+Nested n [] = Unit {0}
+Nested n (h ∷ hs) = (1 ≤ h .frames) × (h .frames ≤ n) × Nested (h .frames) hs
+
+nested-more : (m n : ℕ) (hs : List Handler) → m ≤ n → Nested m hs → Nested n hs
+nested-more m n [] l a = tt
+nested-more m n (h ∷ hs) l a = let b = a .1 in (a .0, omega arith, a .2)
+
+pub nested-all : (m n : ℕ) (hs : List Handler) → m ≤ n → Nested m hs → All (λ h. h .frames ≤ n) hs
+nested-all m n [] l a = tt
+nested-all m n (h ∷ hs) l a = let b = a .1 in (omega arith, nested-all (h .frames) n hs (omega arith) (a .2))
+
+-- Over n frames, no older handler than one that saved at most n saved more: so letting the newest go while they saved more is asking each one.
+older-within : (m n : ℕ) (hs : List Handler) → m ≤ n → Nested m hs → savedWithin n hs ≡ hs
+older-within m n [] l a = refl
+older-within m n (h ∷ hs) l a =
+    let b = a .1 in rw (le-leb (h .frames) n (omega arith)) (ap (λ (x : List Handler). h ∷ x) (older-within (h .frames) n hs (omega arith) (a .2)))
+
+pub record Left (n : ℕ) (hs hs′ : List Handler) : Type 0 where
+  pub nested : Nested n hs′
+  pub each : hs′ ≡ savedWithin n hs
+
+pub pending-over : (m n : ℕ) (hs : List Handler) → Nested m hs → Left n hs (A.pendingOver n hs)
+pending-over m n [] a = record { nested = tt; each = refl }
+pending-over m n (h ∷ hs) a = go (leb (h .frames) n) refl (pending-over (h .frames) n hs (a .2))
+  where
+    go : (b : Bool) → leb (h .frames) n ≡ b → Left n hs (A.pendingOver n hs) → Left n (h ∷ hs) (if b then h ∷ hs else A.pendingOver n hs)
+    go true e p = record {
+      nested = (a .0, leb-true (h .frames) n e, a .2);
+      each = rw e (ap (λ (x : List Handler). h ∷ x) (sym (older-within (h .frames) n hs (leb-true (h .frames) n e) (a .2))));
+    }
+    go false e p = record { nested = p .nested; each = rw e (p .each) }
+
+-- The tally asks each one likewise.
+map-within : (n : ℕ) (hs : List Handler) → map savedBy (savedWithin n hs) ≡ T.savedWithin n (map savedBy hs)
+map-within n [] = refl
+map-within n (h ∷ hs) = go (leb (h .frames) n) (map-within n hs)
+  where
+    go : (b : Bool) → map savedBy (savedWithin n hs) ≡ T.savedWithin n (map savedBy hs)
+        → map savedBy (if b then h ∷ savedWithin n hs else savedWithin n hs) ≡ (if b then savedBy h ∷ T.savedWithin n (map savedBy hs) else T.savedWithin n (map savedBy hs))
+    go true e = ap (λ (x : List T.Saved). savedBy h ∷ x) e
+    go false e = e
+
 -- Of the whole state
 
 pub record Sound (s : State) (t : Tally) : Type 0 where
@@ -76,7 +121,7 @@ pub record Sound (s : State) (t : Tally) : Type 0 where
   pub few : length (s .operands) ≤ operandLimit
   pub frames : Frames (s .frames) (s .slots) (t .frames)
   pub handlers : map savedBy (s .handlers) ≡ t .handlers
-  pub saved : All (λ h. 1 ≤ h .frames) (s .handlers)
+  pub saved : Nested (length (s .frames)) (s .handlers)
   pub functions : length (s .functions) ≡ t .functions
   pub objects : length (s .objects) ≡ t .objects
   pub keys : Keys (bytes s) (s .properties) (t .pairs)
@@ -134,31 +179,14 @@ module _ (s : State) (t : Tally) (r : Sound s t) where
     names = r .names;
   }
 
-  with-frames : (fs : List Frame) (slots : List Value) (ns : List ℕ) → Frames fs slots ns
-      → Sound (S.setFrames fs (S.setSlots slots s)) (T.tallyFrames ns t)
-  with-frames fs slots ns f = record {
+  with-stacks : (fs : List Frame) (slots : List Value) (ns : List ℕ) (hs : List Handler) (n : List T.Saved) → Frames fs slots ns → map savedBy hs ≡ n
+      → Nested (length fs) hs → Sound (S.setHandlers hs (S.setFrames fs (S.setSlots slots s))) (T.tallyHandlers n (T.tallyFrames ns t))
+  with-stacks fs slots ns hs n f e a = record {
     code = r .code;
     images = r .images;
     operands = r .operands;
     few = r .few;
     frames = f;
-    handlers = r .handlers;
-    saved = r .saved;
-    functions = r .functions;
-    objects = r .objects;
-    text = r .text;
-    output = r .output;
-    keys = r .keys;
-    names = r .names;
-  }
-
-  with-handlers : (hs : List Handler) (n : List T.Saved) → map savedBy hs ≡ n → All (λ h. 1 ≤ h .frames) hs → Sound (S.setHandlers hs s) (T.tallyHandlers n t)
-  with-handlers hs n e a = record {
-    code = r .code;
-    images = r .images;
-    operands = r .operands;
-    few = r .few;
-    frames = r .frames;
     handlers = e;
     saved = a;
     functions = r .functions;
@@ -168,6 +196,15 @@ module _ (s : State) (t : Tally) (r : Sound s t) where
     keys = r .keys;
     names = r .names;
   }
+
+  -- No fewer frames stand.
+  with-frames : (fs : List Frame) (slots : List Value) (ns : List ℕ) → Frames fs slots ns → length (s .frames) ≤ length fs
+      → Sound (S.setFrames fs (S.setSlots slots s)) (T.tallyFrames ns t)
+  with-frames fs slots ns f l =
+      with-stacks fs slots ns (s .handlers) (t .handlers) f (r .handlers) (nested-more (length (s .frames)) (length fs) (s .handlers) l (r .saved))
+
+  with-handlers : (hs : List Handler) (n : List T.Saved) → map savedBy hs ≡ n → Nested (length (s .frames)) hs → Sound (S.setHandlers hs s) (T.tallyHandlers n t)
+  with-handlers hs n e a = with-stacks (s .frames) (s .slots) (t .frames) hs n (r .frames) e a
 
   with-functions : (i k : ℕ) → Sound (apply (A.addFunction i k) s) (count (A.addFunction i k) t)
   with-functions i k = record {
@@ -372,13 +409,17 @@ pub has-name : (n : List ℕ) (s : State) (t : Tally) → Sound s t → hasGloba
 has-name n s t r = any-map (λ m. same m n) (nameOf (bytes s)) (s .globals) ∙ ap (any (λ m. same m n)) (r .names .agree)
 
 -- Stacks
+pub length-topAt : (p : ℕ) (fs : List Frame) → length (topAt p fs) ≡ length fs
+length-topAt p [] = refl
+length-topAt p (f ∷ fs) = refl
+
 pub length-rest : {X : Type 0} (xs : List X) → length (A.rest xs) ≡ length xs - 1
 length-rest [] = refl
 length-rest (x ∷ xs) = omega arith
 
-all-rest : {X : Type 0} (P : X → Type 0) (xs : List X) → All P xs → All P (A.rest xs)
-all-rest P [] p = tt
-all-rest P (x ∷ xs) p = p .1
+nested-rest : (n : ℕ) (hs : List Handler) → Nested n hs → Nested n (A.rest hs)
+nested-rest n [] a = tt
+nested-rest n (h ∷ hs) a = nested-more (h .frames) n hs (a .1) (a .2)
 
 pub push-room : (vs : List Value) (b : Bool) → ltb (length vs) operandLimit ≡ b → _≡_ {A = Option JsVmError} (if b then none else some stackOverflow) none → length vs < operandLimit
 push-room vs true q e = ltb→lt (length vs) operandLimit (rw q tt)
@@ -392,20 +433,27 @@ sound-store : (i : ℕ) (v : Value) (fs : List Frame) (s : State) (t : Tally) �
     → Sound (A.storeIn i v fs s) (T.tallyFrames (T.reach i (t .frames)) t)
 sound-store i v [] s t e r =
     let z : t .frames ≡ [] = sym (r .frames .counts) ∙ ap (map F.slotCount) e in
-    with-frames s t r (s .frames) (s .slots) (T.reach i (t .frames)) (rw (ap (T.reach i) z ∙ sym z) (r .frames))
-sound-store i v (f ∷ fs) s t e r = with-frames s t r _ _ _ (F.store i v f fs (s .slots) (t .frames) (rw e at (r .frames)))
+    with-frames s t r (s .frames) (s .slots) (T.reach i (t .frames)) (rw (ap (T.reach i) z ∙ sym z) (r .frames)) (omega arith)
+sound-store i v (f ∷ fs) s t e r = with-frames s t r _ _ _ (F.store i v f fs (s .slots) (t .frames) (rw e at (r .frames))) (let q = ap length e in omega arith)
 
 map-rest : (hs : List Handler) → map savedBy (A.rest hs) ≡ A.rest (map savedBy hs)
 map-rest [] = refl
 map-rest (h ∷ hs) = refl
 
-sound-unwind : (hs : List Handler) (s : State) (t : Tally) → All (λ h. 1 ≤ h .frames) hs → Sound s t → Sound (A.unwindTo hs s) (T.unwound (map savedBy hs) t)
+sound-unwind : (hs : List Handler) (s : State) (t : Tally) → Nested (length (s .frames)) hs → Sound s t → Sound (A.unwindTo hs s) (T.unwound (map savedBy hs) t)
 sound-unwind [] s t a r = r
 sound-unwind (h ∷ hs) s t a r =
-    let r₁ = with-frames s t r _ _ _ (F.keepLowest (h .frames) (s .frames) (s .slots) (t .frames) (r .frames)) in
-    let r₂ = with-handlers _ _ r₁ hs (map savedBy hs) refl (a .1) in
+    let m = length-drop (length (s .frames) - h .frames) (s .frames) in let b = a .1 in
+    let r₁ = with-stacks s t r _ _ _ hs (map savedBy hs) (F.keepLowest (h .frames) (s .frames) (s .slots) (t .frames) (r .frames)) refl
+    (nested-more (h .frames) (length (lowest (h .frames) (s .frames))) hs (omega arith) (a .2)) in
     let k = length-drop (length (s .operands) - h .operands) (s .operands) in let q = r .operands in let l = r .few in
-    with-operands _ _ r₂ (lowest (h .operands) (s .operands)) (min (h .operands) (t .operands)) (omega arith) (omega arith)
+    with-operands _ _ r₁ (lowest (h .operands) (s .operands)) (min (h .operands) (t .operands)) (omega arith) (omega arith)
+
+sound-leave : (fs : List Frame) (s : State) (t : Tally) (ns : List ℕ) → Frames fs (take (endOf fs) (s .slots)) ns → Sound s t → Sound (A.leave fs s) (T.left ns t)
+sound-leave fs s t ns f r =
+    let p = pending-over (length (s .frames)) (length fs) (s .handlers) (r .saved) in
+    let e = F.frames-used fs (take (endOf fs) (s .slots)) ns f in
+    with-stacks s t r _ _ _ _ _ f (ap (map savedBy) (p .each) ∙ map-within (length fs) (s .handlers) ∙ ap₂ T.savedWithin e (r .handlers)) (p .nested)
 
 pub sound : (a : Act) (s : State) (t : Tally) → error a s ≡ none → Sound s t → Sound (apply a s) (count a t)
 sound (A.push v) s t e r =
@@ -417,17 +465,17 @@ sound A.drop s t e r =
 sound (A.dropMany n) s t e r =
     let h = length-drop n (s .operands) in let q = r .operands in let l = r .few in
     with-operands s t r (drop n (s .operands)) (t .operands - n) (omega arith) (omega arith)
-sound (A.jump p) s t e r = with-frames s t r _ _ _ (F.jump p (s .frames) (s .slots) (t .frames) (r .frames))
-sound (A.pushFrame i k vs) s t e r = with-frames s t r _ _ _ (F.pushFrame i k vs (s .frames) (s .slots) (t .frames) (r .frames))
-sound A.popFrame s t e r = with-frames s t r _ _ _ (F.popFrame (s .frames) (s .slots) (t .frames) (r .frames))
+sound (A.jump p) s t e r = with-frames s t r _ _ _ (F.jump p (s .frames) (s .slots) (t .frames) (r .frames)) (let k = length-topAt p (s .frames) in omega arith)
+sound (A.pushFrame i k vs) s t e r = with-frames s t r _ _ _ (F.pushFrame i k vs (s .frames) (s .slots) (t .frames) (r .frames)) (omega arith)
+sound A.popFrame s t e r = sound-leave (A.rest (s .frames)) s t (A.rest (t .frames)) (F.popFrame (s .frames) (s .slots) (t .frames) (r .frames)) r
 sound (A.store i v) s t e r = sound-store i v (s .frames) s t refl r
 sound (A.pushHandler p) s t e r =
     with-handlers s t r _ _
     (ap₂ (λ (o f : ℕ). record { catch = p; operands = o; frames = f } ∷ map savedBy (s .handlers)) (r .operands) (F.frames-used (s .frames) (s .slots) (t .frames) (r .frames))
     ∙ ap (λ (x : List T.Saved). record { catch = p; operands = t .operands; frames = length (t .frames) } ∷ x) (r .handlers))
-    (handler-room (s .frames) e, r .saved)
+    (handler-room (s .frames) e, omega arith, r .saved)
 sound A.popHandler s t e r =
-    with-handlers s t r (A.rest (s .handlers)) _ (map-rest (s .handlers) ∙ ap A.rest (r .handlers)) (all-rest (λ h. 1 ≤ h .frames) (s .handlers) (r .saved))
+    with-handlers s t r (A.rest (s .handlers)) _ (map-rest (s .handlers) ∙ ap A.rest (r .handlers)) (nested-rest (length (s .frames)) (s .handlers) (r .saved))
 sound A.unwind s t e r =
     subst (λ (x : List T.Saved). Sound (A.unwindTo (s .handlers) s) (T.unwound x t)) (r .handlers) (sound-unwind (s .handlers) s t (r .saved) r)
 sound (A.addFunction i k) s t e r = with-functions s t r i k

@@ -6,6 +6,7 @@ use mathlib.Core.List.{List, [], _∷_, _++_}
 use mathlib.Core.Logic.{_↔_}
 use Prim.Native.Nat.{ℕ, zero, suc, _+_, _≤_, _<_}
 use native.Mathlib.Omega.{arith}
+use lib.ListN.{length}
 use Rattle.machine.specs.Value.{Value}
 use Rattle.machine.specs.Error.{JsVmError, executionLimitExceeded}
 use Rattle.machine.specs.State.{State, bytes, Store}
@@ -15,11 +16,13 @@ use Rattle.machine.specs.Program.{End, How, went, ended, refused, Outcom
 use Rattle.machine.specs.Instruction as I
 use Rattle.machine.specs.Run.{Kind, begun, runOut, noFrame, kindOf, body, Step, step, settled, after, Result, Ran, stopped, stepped, goOn, steps}
 use Rattle.machine.specs.Tally.{Tally, counted, unlessRefused}
-use Rattle.machine.specs.Demand3.{All, Orderly, broughtBy, broughtIn, unlessUndone, heldSteps, HasBytes, TextsSteps, tallyStep, tallySteps, RightSteps, IsFull, refusedLast, refusedAtLast, WentOn, isBegun, isRunOut, isNoFrame, total, finish, Throws, ThrowsSteps}
+use Rattle.machine.specs.Demand3.{All, Orderly, broughtBy, broughtIn, unlessUndone, heldSteps, HasBytes, TextsSteps, tallyStep, tallySteps, RightSteps, IsFull, refusedLast, refusedAtLast, WentOn, isBegun, isRunOut, isNoFrame, total, finish, Pending, PendingSteps, Drops, Throws, ThrowsSteps}
 use Rattle.machine.proofs.Texts.{Holds, all-append, all-map, held-grows}
+use Rattle.machine.proofs.Sound.{nested-all}
 use Rattle.machine.proofs.Bounded.{bounded-used}
 use Rattle.machine.proofs.Programs.{Fine, Kept, kept, went-not, ended-not}
 use Rattle.machine.proofs.Throw.{throws}
+use Rattle.machine.proofs.Leave.{drops}
 
 pub orderly : (s : State) (t : Tally) → Fine s t → Orderly s
 orderly s t f = record {
@@ -27,6 +30,7 @@ orderly s t f = record {
   noOthers = f .agrees .frames .full;
   bounded = bounded-used s (f .bounded);
   operands = f .bounded .operands;
+  handlers = nested-all (length (s .frames)) (length (s .frames)) (s .handlers) (omega arith) (f .agrees .saved);
 }
 
 pub have-bytes : (s : State) (hs : List Held) → All (Holds (bytes s)) hs → All (HasBytes s) hs
@@ -83,6 +87,8 @@ pub record KeptRun (n : ℕ) (t : Tally) (hs : List Held) (r : Ran) : Type 0 whe
   pub texts : TextsSteps hs (r .steps)
   pub held : All (Holds (bytes (r .state))) (heldSteps hs (r .steps))
   pub summed : r .made ≡ n + (total isBegun (r .steps) + total isRunOut (r .steps) + finish (r .steps))
+  pub pending : PendingSteps t (r .steps)
+  pub dropped : All Drops (r .steps)
   pub threw : ThrowsSteps t (r .steps)
   pub full : (q : Store) → IsFull q (r .result) ↔ refusedAtLast q (r .steps)
   pub wentOn : WentOn (r .steps)
@@ -97,6 +103,8 @@ module _ (n : ℕ) (s : State) (t : Tally) (hs : List Held) (f : Fine s t) (h : 
     texts = tt;
     held = h;
     summed = omega arith;
+    pending = tt;
+    dropped = tt;
     threw = tt;
     full = λ q. ((λ z. absurd z), (λ z. absurd z));
     wentOn = tt;
@@ -104,7 +112,7 @@ module _ (n : ℕ) (s : State) (t : Tally) (hs : List Held) (f : Fine s t) (h : 
 
 -- A step p from s, of which n have been made before.
 module _ (n : ℕ) (s : State) (t : Tally) (hs : List Held) (p : Step) (f : Fine s t) (h : All (Holds (bytes s)) hs) (k : Kept s t (p .outcome))
-    (at : Orderly (p .before)) (had : All (HasBytes (p .before)) hs) (thrown : Throws t p)
+    (at : Orderly (p .before)) (had : All (HasBytes (p .before)) hs) (stood : Pending t (p .before)) (left : Drops p) (thrown : Throws t p)
     (ends : p .outcome .how ≡ went → isNoFrame (p .kind) ≡ 0) where
   after-step : Settled (tallyStep t p) (after s (p .outcome)) (hs ++ broughtIn p)
   after-step = settle (p .outcome .how) s t (p .outcome) hs f h k
@@ -118,6 +126,8 @@ module _ (n : ℕ) (s : State) (t : Tally) (hs : List Held) (p : Step) (f : Fine
     texts = (had, tt);
     held = after-step .held;
     summed = let b = one-kind (p .kind) in omega arith;
+    pending = (stood, tt);
+    dropped = (left, tt);
     threw = (thrown, tt);
     full = g;
     wentOn = tt;
@@ -140,6 +150,8 @@ module _ (n : ℕ) (s : State) (t : Tally) (hs : List Held) (p : Step) (f : Fine
     texts = (had, l .texts);
     held = l .held;
     summed = let a = l .summed in let b = one-kind (p .kind) in let c = finish-later p (r .steps) (ends e) in let d = ends e in omega arith;
+    pending = (stood, l .pending);
+    dropped = (left, l .dropped);
     threw = (thrown, l .threw);
     full = λ q. let y = full-later q (r .steps) e in ((λ z. y .0 (l .full q .0 z)), (λ z. l .full q .1 (y .1 z)));
     wentOn = went-later (r .steps) e (l .wentOn);
@@ -156,8 +168,9 @@ kept-steps (suc k) n s t hs f h =
     let p = step s in
     let l = kept (body (kindOf s)) s t f in
     let q = throws s t (f .agrees) in
+    let w = f .agrees .handlers in let d = drops s (f .agrees .saved) in
     let e = no-frame-ends (kindOf s) s in
     let o = orderly s t f in let b = have-bytes s hs h in
-    let next = after-step n s t hs p f h l o b q e in
-    kept-on n s t hs p f h l o b q e (p .outcome .how) refl (steps k (n + 1) (after s (p .outcome)))
+    let next = after-step n s t hs p f h l o b w d q e in
+    kept-on n s t hs p f h l o b w d q e (p .outcome .how) refl (steps k (n + 1) (after s (p .outcome)))
     (kept-steps k (n + 1) (after s (p .outcome)) (tallyStep t p) (hs ++ broughtIn p) (next .fine) (next .held))

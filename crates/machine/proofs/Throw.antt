@@ -1,30 +1,26 @@
 -- A Throw that has popped its value, with a handler pending. Assumes nothing.
-use mathlib.Core.Path.{_≡_, refl, sym, ap, ap₂, _∙_, subst}
-use mathlib.Core.Bool.{Bool, true, false, not}
+use mathlib.Core.Path.{_≡_, refl, sym, ap, _∙_, subst}
+use mathlib.Core.Bool.{Bool, true, false}
 use mathlib.Core.Option.{Option, none, some}
-use mathlib.Core.List.{List, [], _∷_, _++_, map}
+use mathlib.Core.List.{List, [], _∷_, map}
 use Prim.Native.Nat.{ℕ, zero, suc, _+_, _-_, _≤_, _<_, min}
 use native.Mathlib.Omega.{arith}
-use lib.Dec.{leb, ltb, T, lt→ltb}
-use lib.ListN.{length, getD, drop, length-drop}
+use lib.Dec.{ltb, T, lt→ltb}
+use lib.ListN.{length, drop, length-drop}
 use Rattle.machine.specs.Basic.{if_then_else_, lowest}
 use Rattle.machine.specs.Value.{Value}
-use Rattle.machine.specs.Error.{JsVmError, ipOutOfBounds, stackOverflow}
-use Rattle.machine.specs.State.{State, Frame, Handler, running, setIp, topAt, operandLimit}
+use Rattle.machine.specs.Error.{JsVmError, stackOverflow}
+use Rattle.machine.specs.State.{State, Frame, Handler, setIp, topAt, operandLimit}
 use Rattle.machine.specs.Fields as S
 use Rattle.machine.specs.Act as A
 use Rattle.machine.specs.Act.{apply, error}
-use Rattle.machine.specs.Program.{Program, make, end, failed, went, did, Outcome, over, noting, unlessError, exec}
-use Rattle.machine.specs.Instruction.{fetch, fetchFrom, instruction}
-use Rattle.machine.specs.Run.{Kind, begun, runOut, noFrame, kindIn, kindOf, body, Step, step, after}
+use Rattle.machine.specs.Program.{went, did, Outcome, over, noting, unlessError, exec}
+use Rattle.machine.specs.Instruction.{instruction}
+use Rattle.machine.specs.Run.{Kind, begun, noFrame, kindIn, kindOf, body, Step, step, after}
 use Rattle.machine.specs.Tally.{Tally, Saved}
 use Rattle.machine.specs.Demand3.{Throws, Caught, savedBy}
 use Rattle.machine.proofs.Sound.{Sound}
-
--- The step's byte is k, and its place is within the code.
-pub kind-within : (k : ℕ) (b : Bool) (n : ℕ) → (if b then begun n else runOut) ≡ begun k → (b ≡ true) × (n ≡ k)
-kind-within k true n e = (refl, cc)
-kind-within k false n e = let z : _≡_ {A = ℕ} 0 1 = cc in absurd (omega arith)
+use Rattle.machine.proofs.Begun.{begins}
 
 module _ (s : State) (f : Frame) (fs : List Frame) (v : Value) (vs : List Value) (h : Handler) where
   -- after the opcode is fetched, its value popped, and the handler taken
@@ -42,11 +38,6 @@ module _ (s : State) (f : Frame) (fs : List Frame) (v : Value) (vs : List Value)
       noting (did A.drop []) (noting (did A.unwind [])
       (unlessError e s₅ (noting (did (A.push v) []) (noting (did (A.jump (h .catch)) []) (over went s₇)))))
 
-  fetched : (b : Bool) (n : ℕ) → b ≡ true → n ≡ 74
-      → exec (if b then make (A.jump (f .ip + 1)) (instruction n) else end (failed ipOutOfBounds)) s
-      ≡ noting (did (A.jump (f .ip + 1)) []) (exec (instruction 74) s₁)
-  fetched b n eb en = ap₂ (λ (x : Bool) (y : ℕ). exec (if x then make (A.jump (f .ip + 1)) (instruction y) else end (failed ipOutOfBounds)) s) eb en
-
 thrown : (s : State) (f : Frame) (fs : List Frame) (v : Value) (vs : List Value) (h : Handler) (hs : List Handler)
     → let s′ : State = S.setOperands (v ∷ vs) (S.setHandlers (h ∷ hs) (S.setFrames (f ∷ fs) s)) in
     exec (instruction 74) (s₁ s′ f fs v vs h) ≡ pushing s′ f fs v vs h (error (A.push v) (s₅ s′ f fs v vs h))
@@ -62,6 +53,7 @@ record Left (p c : ℕ) (f : Frame) (fs : List Frame) (k : ℕ) : Type 0 where
   below : List Frame
   left : drop k (f ∷ fs) ≡ top ∷ below
   at : topAt c (drop k (setIp p f ∷ fs)) ≡ setIp c top ∷ below
+  size : suc (length below) ≡ suc (length fs) - k
 
 some-left : (j : ℕ) (fs : List Frame) → j < length fs → (top : Frame) × (below : List Frame) × (drop j fs ≡ top ∷ below)
 some-left j [] l = absurd (omega arith)
@@ -69,9 +61,11 @@ some-left zero (f ∷ fs) l = (f, fs, refl)
 some-left (suc j) (f ∷ fs) l = some-left j fs (omega arith)
 
 frames-left : (p c : ℕ) (f : Frame) (fs : List Frame) (k : ℕ) → k ≤ length fs → Left p c f fs k
-frames-left p c f fs zero l = record { top = f; below = fs; left = refl; at = refl }
+frames-left p c f fs zero l = record { top = f; below = fs; left = refl; at = refl; size = omega arith }
 frames-left p c f fs (suc j) l =
-    let x = some-left j fs l in record { top = x .0; below = x .1; left = x .2; at = ap (topAt c) (x .2) }
+    let x = some-left j fs l in
+    let e : length (drop j fs) ≡ suc (length (x .1)) = ap length (x .2) in let d = length-drop j fs in
+    record { top = x .0; below = x .1; left = x .2; at = ap (topAt c) (x .2); size = omega arith }
 
 is-true : (b : Bool) → T b → b ≡ true
 is-true true t = refl
@@ -89,14 +83,13 @@ module _ (s : State) (f : Frame) (fs : List Frame) (v : Value) (vs : List Value)
   outcome : suc (length vs) ≤ operandLimit → kindOf throwing ≡ begun 74
       → exec (body (kindOf throwing)) throwing ≡ noting (did (A.jump (f .ip + 1)) []) (pushing throwing f fs v vs h none)
   outcome l e =
-      let w = kind-within 74 (ltb (f .ip) (running throwing f .size)) (getD (s .code) (running throwing f .at + f .ip) 0) e in
-      ap (λ (k : Kind). exec (body k) throwing) e
-      ∙ fetched throwing f fs v vs h (ltb (f .ip) (running throwing f .size)) (getD (s .code) (running throwing f .at + f .ip) 0) (w .0) (w .1)
+      begins (S.setOperands (v ∷ vs) (S.setHandlers (h ∷ hs) s)) f fs 74 e
       ∙ ap (λ (o : Outcome). noting (did (A.jump (f .ip + 1)) []) o) (thrown s f fs v vs h hs)
       ∙ ap (λ (x : Option JsVmError). noting (did (A.jump (f .ip + 1)) []) (pushing throwing f fs v vs h x)) (room vs (h .operands) l)
 
-  caught : suc (length vs) ≤ operandLimit → 1 ≤ h .frames → kindOf throwing ≡ begun 74 → Caught (step throwing) v vs (savedBy h) (map savedBy hs)
-  caught l g e =
+  caught : suc (length vs) ≤ operandLimit → 1 ≤ h .frames → h .frames ≤ suc (length fs) → kindOf throwing ≡ begun 74
+      → Caught (step throwing) v vs (savedBy h) (map savedBy hs)
+  caught l g m e =
       let E = outcome l e in
       let k = frames-left (f .ip + 1) (h .catch) f fs (suc (length fs) - h .frames) (omega arith) in
       record {
@@ -105,8 +98,9 @@ module _ (s : State) (f : Frame) (fs : List Frame) (v : Value) (vs : List Value)
         handlers = ap (λ (o : Outcome). map savedBy (after throwing o .handlers)) E;
         top = k .top;
         below = k .below;
-        left = lowest-min (h .frames) (f ∷ fs) ∙ k .left;
+        left = k .left;
         frames = ap (λ (o : Outcome). after throwing o .frames) E ∙ k .at;
+        saved = ap (λ (o : Outcome). length (after throwing o .frames)) E ∙ ap length (k .at) ∙ (let n = k .size in omega arith);
       }
 
 -- The newest handler of the machine is the tally's.
@@ -123,7 +117,7 @@ throws s t r e v vs k ks eo ek = pending (s .handlers) refl
         let σ : s ≡ throwing s f fs v vs h hs = λ i. S.setOperands (eo i) (S.setHandlers (eh i) (S.setFrames (ef i) s)) in
         subst (λ (x : State). Caught (step x) v vs (savedBy h) (map savedBy hs)) (sym σ)
         (caught s f fs v vs h hs (let q = r .few in let p = ap length eo in omega arith)
-        (rw eh at (r .saved) .0) (subst (λ (x : State). kindOf x ≡ begun 74) σ e))
+        (rw eh at (r .saved) .0) (let q = rw eh at (r .saved) .1 in let p = ap length ef in omega arith) (subst (λ (x : State). kindOf x ≡ begun 74) σ e))
 
     pending : (hs : List Handler) → s .handlers ≡ hs → Caught (step s) v vs k ks
     pending [] eh = let z : _≡_ {A = List Saved} [] (k ∷ ks) = ap (map savedBy) (sym eh) ∙ r .handlers ∙ ek in let y : _≡_ {A = ℕ} 0 (suc (length ks)) = ap length z in absurd (omega arith)

@@ -32,7 +32,7 @@ pub data Act : Type 0 where
   jump : ℕ → Act
   -- a frame for a template of an image, at its first byte, with these slots
   pushFrame : ℕ → ℕ → List Value → Act
-  -- the top frame off, with its slots
+  -- the top frame off, with its slots and its handlers
   popFrame : Act
   -- a value into a slot of the top frame, which grows to have it
   store : ℕ → Value → Act
@@ -67,6 +67,15 @@ rest (x ∷ xs) = xs
 -- Only these frames stand, with their slots.
 abbrev pub keepFrames : List Frame → State → State
 keepFrames fs s = setFrames fs (setSlots (take (endOf fs) (s .slots)) s)
+
+-- A handler is dropped when the frames standing fall below the number that it saved: the handlers that are left over n frames. No older one saved
+-- more than a newer one (Demand3), so those that go are the newest.
+abbrev pub pendingOver : ℕ → List Handler → List Handler
+pendingOver n [] = []
+pendingOver n (h ∷ hs) = if leb (h .frames) n then h ∷ hs else pendingOver n hs
+
+abbrev pub leave : List Frame → State → State
+leave fs s = setHandlers (pendingOver (length fs) (s .handlers)) (keepFrames fs s)
 
 abbrev pub unwindTo : List Handler → State → State
 unwindTo [] s = s
@@ -162,7 +171,7 @@ apply (dropMany n) s = setOperands (List·drop n (s .operands)) s
 apply (jump p) s = setFrames (topAt p (s .frames)) s
 apply (pushFrame i t vs) s =
     setFrames (record { image = i; template = t; ip = 0; base = length (s .slots); count = length vs } ∷ s .frames) (setSlots (s .slots ++ vs) s)
-apply popFrame s = keepFrames (rest (s .frames)) s
+apply popFrame s = leave (rest (s .frames)) s
 apply (store i v) s = storeIn i v (s .frames) s
 apply (pushHandler p) s = setHandlers (record { catch = p; operands = length (s .operands); frames = length (s .frames) } ∷ s .handlers) s
 apply popHandler s = setHandlers (rest (s .handlers)) s

@@ -166,6 +166,32 @@ pub twelve : Twelve
 unfolding stepLimit
 twelve = record { last = refl; refused = refl; cut = refl }
 
+-- An image of two templates, of which the first has one constant, the second as a function.
+abbrev calling : List ℕ → List ℕ → List ℕ
+calling chunk callee =
+    0 ∷ 2 ∷ 0 ∷ 0 ∷ 0 ∷ 0 ∷ 0 ∷ 1 ∷ 5 ∷ 0 ∷ 1 ∷ 0 ∷ length chunk ∷ chunk
+    ++ 0 ∷ 0 ∷ 0 ∷ 0 ∷ 0 ∷ 0 ∷ 0 ∷ length callee ∷ callee
+
+-- Hex 46 4B 00 00 33: a Return out of a guarded block.
+abbrev returning : List ℕ
+returning = 0x46 ∷ 0x4B ∷ 0x00 ∷ 0x00 ∷ 0x33 ∷ []
+
+-- A handler goes with its function. A Return that gives 15, and a Halt, drop none.
+pub record Guarded : Type 0 where
+  pub ranOff : runImage (coded (0x4B ∷ 0x00 ∷ 0x00 ∷ [])) ≡ record { end = 0; steps = 3; operands = 0; frames = 0; handlers = 0; value = ascii "undefined" }
+  pub returned : runImage (coded returning) ≡ record { end = 0; steps = 4; operands = 0; frames = 0; handlers = 0; value = ascii "undefined" }
+  pub notReturned : runImage (coded (0x4B ∷ 0x00 ∷ 0x00 ∷ 0x33 ∷ [])) ≡ record { end = 15; steps = 2; operands = 0; frames = 1; handlers = 1; value = ascii "undefined" }
+  pub halted : runImage (coded (0x4B ∷ 0x00 ∷ 0x00 ∷ 0xFF ∷ [])) ≡ record { end = 0; steps = 2; operands = 0; frames = 1; handlers = 1; value = ascii "undefined" }
+  -- a Throw after the call: caught by the caller's handler, at the Halt; by none where the caller has none
+  pub caught : runImage (calling (0x4B ∷ 0x00 ∷ 0x09 ∷ 0x00 ∷ 0x00 ∷ 0x00 ∷ 0x32 ∷ 0x00 ∷ 0x4A ∷ 0xFF ∷ []) returning)
+      ≡ record { end = 0; steps = 8; operands = 0; frames = 1; handlers = 0; value = ascii "undefined" }
+  pub uncaught : runImage (calling (0x00 ∷ 0x00 ∷ 0x00 ∷ 0x32 ∷ 0x00 ∷ 0x4A ∷ []) returning)
+      ≡ record { end = 17; steps = 6; operands = 0; frames = 1; handlers = 0; value = ascii "undefined" }
+
+pub guarded : Guarded
+unfolding stepLimit
+guarded = record { ranOff = refl; returned = refl; notReturned = refl; halted = refl; caught = refl; uncaught = refl }
+
 -- Six digits are cut off the magnitude, and zero is judged after the cut. So raw 1 and raw -1 name element 0, and one half names no element.
 abbrev element : ℕ → State
 element n = exec (instruction 7) (setOperands (Value.number n ∷ arrayMade .operands) arrayMade) .state

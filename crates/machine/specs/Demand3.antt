@@ -4,11 +4,12 @@ use mathlib.Core.Logic.{_↔_}
 use mathlib.Core.Bool.{Bool, true, false}
 use mathlib.Core.List.{List, [], _∷_, _++_, map}
 use Prim.Native.Nat.{ℕ, zero, suc, _+_, _*_, _≤_, _<_, min}
+use lib.Dec.{leb, eqb}
 use lib.ListN.{length, getD}
-use Rattle.machine.specs.Basic.{lowest, sumOf}
+use Rattle.machine.specs.Basic.{if_then_else_, lowest, sumOf}
 use Rattle.machine.specs.Value.{Value, Text, Home, inCode, inText}
 use Rattle.machine.specs.State.{State, Bytes, bytes, Frame, Handler, Store, fresh, running, bytesOf, endOf, limit, used, operandLimit, setIp, question}
-use Rattle.machine.specs.Act.{Given, Held}
+use Rattle.machine.specs.Act.{Given, Held, rest}
 use Rattle.machine.specs.Program.{Event, asked, did, How, went, ended, refused, Outcome}
 use Rattle.machine.specs.Run.{Kind, begun, runOut, noFrame, Step, Result, after}
 use Rattle.machine.specs.Host.{Call, Answer, Called, history, leaves}
@@ -19,7 +20,8 @@ All P [] = Unit {0}
 All P (x ∷ xs) = P x × All P xs
 
 -- 1. Slots: those of each standing frame begin where those of the frame below end, the lowest at slot 0, and no other slots stand. With it: no
--- store's use is above its limit. Both of every state: before each call and each step, and at the end.
+-- store's use is above its limit; and no pending handler saved more frames than stand. All of every state: before each call and each step, and
+-- at the end.
 
 abbrev pub Contiguous : List Frame → Type 0
 Contiguous [] = Unit {0}
@@ -30,6 +32,7 @@ pub record Orderly (s : State) : Type 0 where
   pub noOthers : length (s .slots) ≡ endOf (s .frames)
   pub bounded : (q : Store) → used s q ≤ limit q
   pub operands : length (s .operands) ≤ operandLimit
+  pub handlers : All (λ h. h .frames ≤ length (s .frames)) (s .handlers)
 
 abbrev pub OrderlyCall : Called → Type 0
 OrderlyCall d = Orderly (d .before) × All (λ t. Orderly (t .before)) (d .steps) × Orderly (d .after)
@@ -247,13 +250,46 @@ finish (t ∷ (u ∷ ts)) = finish (u ∷ ts)
 abbrev pub Summed : Called → Type 0
 Summed d = (e : Result) (n : ℕ) → d .answer ≡ Answer.ran e n → n ≡ total isBegun (d .steps) + total isRunOut (d .steps) + finish (d .steps)
 
--- 5. Throw: one that has popped its value v, with a handler pending by the tally: h is what its EnterTry saved, as tallied there. Operands and
--- frames are cut to what h saved, or to those that stand where they are fewer; the value is pushed, and the frame then on top goes on at h's
--- catch place; the handlers left are the tally's others.
+-- 5. Handlers. Those that are pending are the tally's, before each step and after each call.
 
 -- What a handler saved, as the tally has it.
 abbrev pub savedBy : Handler → Saved
 savedBy h = record { catch = h .catch; operands = h .operands; frames = h .frames }
+
+abbrev pub Pending : Tally → State → Type 0
+Pending k s = map savedBy (s .handlers) ≡ k .handlers
+
+abbrev pub PendingSteps : Tally → List Step → Type 0
+PendingSteps k [] = Unit {0}
+PendingSteps k (t ∷ ts) = Pending k (t .before) × PendingSteps (tallyStep k t) ts
+
+abbrev pub PendingCalls : Tally → List Called → Type 0
+PendingCalls k [] = Unit {0}
+PendingCalls k (d ∷ ds) =
+    let u = tallySteps (tallyStart k d) (d .steps) in PendingSteps (tallyStart k d) (d .steps) × Pending u (d .after) × PendingCalls u ds
+
+-- Return, or running off the end: one that goes on has taken the newest frame off, and with it each handler that saved more frames than are left.
+
+abbrev pub takesFrame : Kind → Bool
+takesFrame (begun b) = eqb b 51
+takesFrame runOut = true
+takesFrame noFrame = false
+
+-- the handlers that saved at most n frames, each one asked
+abbrev pub savedWithin : ℕ → List Handler → List Handler
+savedWithin n [] = []
+savedWithin n (h ∷ hs) = if leb (h .frames) n then h ∷ savedWithin n hs else savedWithin n hs
+
+pub record Dropped (t : Step) : Type 0 where
+  pub frames : after (t .before) (t .outcome) .frames ≡ rest (t .before .frames)
+  pub handlers : after (t .before) (t .outcome) .handlers ≡ savedWithin (length (after (t .before) (t .outcome) .frames)) (t .before .handlers)
+
+abbrev pub Drops : Step → Type 0
+Drops t = takesFrame (t .kind) ≡ true → t .outcome .how ≡ went → Dropped t
+
+-- Throw: one that has popped its value v, with a handler pending by the tally: h is what its EnterTry saved, as tallied there. Operands are
+-- cut to what h saved, or to those that stand where they are fewer; exactly the frames that h saved are left; the value is pushed, and the frame
+-- then on top goes on at h's catch place; the handlers left are the tally's others.
 
 pub record Caught (t : Step) (v : Value) (vs : List Value) (h : Saved) (hs : List Saved) : Type 0 where
   pub noError : t .outcome .how ≡ went
@@ -261,8 +297,9 @@ pub record Caught (t : Step) (v : Value) (vs : List Value) (h : Saved) (hs : Lis
   pub handlers : map savedBy (after (t .before) (t .outcome) .handlers) ≡ hs
   pub top : Frame
   pub below : List Frame
-  pub left : lowest (min (length (t .before .frames)) (h .frames)) (t .before .frames) ≡ top ∷ below
+  pub left : lowest (h .frames) (t .before .frames) ≡ top ∷ below
   pub frames : after (t .before) (t .outcome) .frames ≡ setIp (h .catch) top ∷ below
+  pub saved : length (after (t .before) (t .outcome) .frames) ≡ h .frames
 
 abbrev pub Throws : Tally → Step → Type 0
 Throws k t = t .kind ≡ begun 74 → (v : Value) (vs : List Value) (h : Saved) (hs : List Saved)
@@ -276,7 +313,7 @@ abbrev pub ThrowsCalls : Tally → List Called → Type 0
 ThrowsCalls k [] = Unit {0}
 ThrowsCalls k (d ∷ ds) = ThrowsSteps (tallyStart k d) (d .steps) × ThrowsCalls (tallySteps (tallyStart k d) (d .steps)) ds
 
--- 6. EnterTry: one that goes on saves the catch place that its operand says, and the operands and the frames that stand there.
+-- EnterTry: one that goes on saves the catch place that its operand says, and the operands and the frames that stand there.
 
 -- the number of two bytes of code
 abbrev pub wordAt : List ℕ → ℕ → ℕ → ℕ
@@ -300,5 +337,7 @@ pub record Demand3 (calls : List Call) : Type 0 where
   pub stored : StoredCalls nothing [] (history fresh calls)
   pub refusals : All Honest (history fresh calls)
   pub sums : All Summed (history fresh calls)
+  pub pending : PendingCalls nothing (history fresh calls)
+  pub drops : All (λ d. All Drops (d .steps)) (history fresh calls)
   pub throws : ThrowsCalls nothing (history fresh calls)
   pub tries : All (λ d. All Enters (d .steps)) (history fresh calls)

@@ -323,7 +323,7 @@ JumpIfFalse = fetchWord λ p. pop λ v. look λ s. jumpIf (not (toBoolean (bytes
 abbrev pub JumpIfTrue : Program
 JumpIfTrue = fetchWord λ p. pop λ v. look λ s. jumpIf (toBoolean (bytes s) v) p
 
--- Functions: handlers stay where they are at Return.
+-- Functions: Return drops the handlers of the frame that it takes off.
 
 abbrev pub Call : Program
 Call = fetch λ n. popMany n [] λ args. pop λ f. call f args

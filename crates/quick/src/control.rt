@@ -179,7 +179,8 @@ pub fn leave_try(d: Depths) -> Quick
     Quick::Went(with_handlers(d, d.operands, h - 1, d.ip))
 }
 
-// These two may take frames off. The value that is returned stands where it is to stand.
+// These two may take frames off. The value that is returned stands where it is to stand. Where a handler goes with the frame, the dispatcher does it: a loop over
+// handlers here, in every step's loop, costs each step some instructions.
 pub fn return_value(d: Depths, stacks: &[u64]) -> Quick
     requires { ⌜ Ready d (now stacks) ⌝ }
     ensures { λ r. ⌜ Quickly Any Return d (now (stacks .entry)) r (now (stacks .entry)) ⌝ }
@@ -188,7 +189,11 @@ pub fn return_value(d: Depths, stacks: &[u64]) -> Quick
     if c == 0 {
         return Quick::Left;
     }
-    let e = stacks::pop_frame(with_operands(d, c - 1), stacks);
+    let k = stacks::minus(d.frames, 1);
+    if stacks::saved_more(d.handlers, k, stacks) {
+        return Quick::Left;
+    }
+    let e = stacks::cut_frames(with_operands(d, c - 1), k, stacks);
     Quick::Went(with_operands(e, c))
 }
 

@@ -1,17 +1,19 @@
--- Frames taken off, with their slots. Assumes nothing.
+-- Frames taken off, with their slots and handlers. Assumes nothing.
 use Rattle.stacks.specs.Layout.{frameLimit, slotsAt, framesAt, handlersAt}
 use Prim.Native.Nat.{ℕ, zero, suc, _+_, _-_, _*_, _≤_, _<_, min, max}
 use native.Mathlib.Omega.{arith}
 use native.Mathlib.Decide.{decLt}
-use mathlib.Core.Bool.{Bool, true, false}
+use mathlib.Core.Bool.{Bool, true, false, true≢false}
 use mathlib.Core.List.{List, [], _∷_}
-use mathlib.Core.Path.{_≡_, refl, sym, ap, _∙_}
+use mathlib.Core.Path.{_≡_, refl, sym, ap, ap₂, _∙_}
+use lib.Dec.{ltb}
 use lib.ListN.{length, getD, set, take, drop}
-use borrow.Author.Tests.{lt-ltb, le-ltb}
+use borrow.Author.Tests.{lt-ltb, le-ltb, le-leb, lt-leb, ltb-true, ltb-false}
 use Rattle.machine.specs.Basic.{lowest}
 use Rattle.machine.specs.Value as M
 use Rattle.machine.specs.State as St
 use Rattle.machine.specs.Act as A
+use Rattle.machine.specs.Fields as S
 use Rattle.machine.specs.Instruction as I
 use Rattle.value.specs.declared.Value.{Value}
 use Rattle.value.specs.Words.{valueOf, valueAt}
@@ -20,7 +22,7 @@ use Rattle.stacks.specs.declared.Depths.{Depths}
 use Rattle.stacks.specs.declared.Frame.{Frame}
 use Rattle.stacks.specs.declared.Handler.{Handler}
 use Rattle.stacks.specs.View
-use Rattle.stacks.specs.Laws.{top-length, withOperands}
+use Rattle.stacks.specs.Laws.{top-length, withOperands, withHandlers}
 
 abbrev pub kept : ℕ → ℕ → ℕ → Depths → Depths
 kept k p l d = record { operands = d .operands; slots = l; frames = k; handlers = d .handlers; ip = p }
@@ -37,6 +39,51 @@ cut-slots w n m = go (decLt m n)
 
 end-top : (p : ℕ) (f : St.Frame) (fs : List St.Frame) → St.endOf (St.topAt p (f ∷ fs)) ≡ f .base + f .count
 end-top p f fs = refl
+
+-- where the newest handler saved no more, all are left; where it saved more, it goes
+pub all-left : (k : ℕ) (hs : List St.Handler) → View.savedMore k hs ≡ false → A.pendingOver k hs ≡ hs
+all-left k [] e = refl
+all-left k (h ∷ hs) e = rw (le-leb (h .frames) k (ltb-false k (h .frames) e))
+
+newest-goes : (k : ℕ) (h : St.Handler) (hs : List St.Handler) → ltb k (h .frames) ≡ true → A.pendingOver k (h ∷ hs) ≡ A.pendingOver k hs
+newest-goes k h hs e = rw (lt-leb (h .frames) k (ltb-true k (h .frames) e))
+
+module _ (w : List ℕ) where
+  newest : (m : ℕ) → (m ≡ 0 → ⊥) → View.handlersOf w m ≡ View.handlerAt w (handlersAt + 3 * (m - 1)) ∷ View.handlersOf w (m - 1)
+  newest m z = stack-pop (λ i. View.handlerAt w (handlersAt + 3 * i)) m z
+
+  none-pending : (m : ℕ) → m ≡ 0 → View.handlersOf w m ≡ []
+  none-pending m z = ap (λ (x : ℕ). View.handlersOf w x) z ∙ stack-none (λ i. View.handlerAt w (handlersAt + 3 * i))
+
+  pub none-saved : (k m : ℕ) → m ≡ 0 → false ≡ View.savedMore k (View.handlersOf w m)
+  none-saved k m z = ap (View.savedMore k) (sym (none-pending m z))
+
+  pub newest-saved : (k m : ℕ) → (m ≡ 0 → ⊥) → ltb k (getD w (handlersAt + 3 * (m - 1) + 2) 0) ≡ View.savedMore k (View.handlersOf w m)
+  unfolding View.handlerAt
+  newest-saved k m z = ap (View.savedMore k) (sym (newest m z))
+
+  -- one that saved more is pending
+  pub some-pending : (k m : ℕ) → View.savedMore k (View.handlersOf w m) ≡ true → m ≡ 0 → ⊥
+  some-pending k m e z = true≢false (sym e ∙ ap (View.savedMore k) (none-pending m z))
+
+  -- handlers that are dropped, the newest first: m of n are left so far
+  pub record Dropping (n k m : ℕ) : Type 0 where
+    pub state : A.pendingOver k (View.handlersOf w m) ≡ A.pendingOver k (View.handlersOf w n)
+    pub within : m ≤ n
+
+  pub drop-first : (n k : ℕ) → Dropping n k n
+  drop-first n k = record { state = refl; within = omega arith }
+
+  pub drop-more : {n k m : ℕ} → View.savedMore k (View.handlersOf w m) ≡ true → Dropping n k m → Dropping n k (m - 1)
+  drop-more {n} {k} {m} e p =
+      let t = newest m (some-pending k m e) in
+      record {
+        state = sym (ap (A.pendingOver k) t ∙ newest-goes k _ _ (sym (ap (View.savedMore k) t) ∙ e)) ∙ p .state;
+        within = omega (arith, p .within);
+      }
+
+  pub drop-last : {n k m : ℕ} → View.savedMore k (View.handlersOf w m) ≡ false → Dropping n k m → View.PendingOver n k w m
+  drop-last {n} {k} {m} e p = record { state = sym (all-left k (View.handlersOf w m) e) ∙ p .state; within = p .within }
 
 module _ (d : Depths) (w : List ℕ) (good : View.Ready d w) where
   pub keep-none : (k p : ℕ) → k ≡ 0 → View.Keeps d k p w (kept k p 0 d)
@@ -99,10 +146,36 @@ module _ (d : Depths) (w : List ℕ) (good : View.Ready d w) where
       let t : View.rowsOf w (d .frames) ≡ View.frameAt w (framesAt + 5 * (d .frames - 1)) ∷ View.rowsOf w (d .frames - 1) = stack-pop (λ i. View.frameAt w (framesAt + 5 * i)) (d .frames) z in
       ap (λ (x : List St.Frame). A.rest (St.topAt (d .ip) x)) t ∙ sym (lowest-rows (d .frames - 1) (omega arith))
 
-  pub left : (m : ℕ) (r : Depths) → m ≡ d .frames - 1 → View.Cuts d m w r → View.PopsFrame d w r
-  left m r e k = record {
-    state = λ s. k .state s ∙ ap (λ (x : List St.Frame). A.keepFrames x (View.onStacks d w s)) (ap (λ (x : ℕ). lowest x (View.framesOf w (d .frames) (d .ip))) e ∙ sym (rest-rows (d .frames) refl));
-    ready = k .ready;
+  rest-length : length (A.rest (View.framesOf w (d .frames) (d .ip))) ≡ d .frames - 1
+  rest-length = go (View.framesOf w (d .frames) (d .ip)) ∙ ap (λ (n : ℕ). n - 1) (top-length (d .ip) (View.rowsOf w (d .frames)) ∙ stack-length (λ i. View.frameAt w (framesAt + 5 * i)) (d .frames))
+    where
+      go : (fs : List St.Frame) → length (A.rest fs) ≡ length fs - 1
+      go [] = refl
+      go (f ∷ fs) = omega arith
+
+  -- the newest frame off: the lowest that are left, with their slots and handlers
+  leave-cut : (k : ℕ) → k ≡ d .frames - 1 → (s : St.State)
+      → S.setHandlers (A.pendingOver k (View.handlersOf w (d .handlers))) (A.keepFrames (lowest k (View.framesOf w (d .frames) (d .ip))) (View.onStacks d w s)) ≡ A.apply A.popFrame (View.onStacks d w s)
+  leave-cut k e s =
+      let t = View.onStacks d w s in
+      ap₂ (λ (fs : List St.Frame) (n : ℕ). S.setHandlers (A.pendingOver n (t .handlers)) (A.keepFrames fs t))
+      (ap (λ (x : ℕ). lowest x (t .frames)) e ∙ sym (rest-rows (d .frames) refl)) (e ∙ sym rest-length)
+
+  pub left : (k h : ℕ) (r : Depths) → k ≡ d .frames - 1 → View.Cuts d k w r → View.PendingOver (d .handlers) k w h → View.PopsFrame d w (withHandlers h r)
+  left k h r e c p = record {
+    state = λ s.
+        let t = View.onStacks d w s in
+        ap (S.setHandlers (View.handlersOf w h)) (c .state s) ∙ ap (λ (x : List St.Handler). S.setHandlers x (A.keepFrames (lowest k (t .frames)) t)) (p .state) ∙ leave-cut k e s;
+    ready = record { operands = c .ready .operands; slots = c .ready .slots; frames = c .ready .frames; handlers = omega (arith, good .handlers, p .within); size = good .size };
+  }
+
+  -- where no handler goes, the frames are all that is cut
+  pub left-handlers : (k : ℕ) (r : Depths) → k ≡ d .frames - 1 → View.savedMore k (View.handlersOf w (d .handlers)) ≡ false → View.Cuts d k w r → View.PopsFrame d w r
+  left-handlers k r e n c = record {
+    state = λ s.
+        let t = View.onStacks d w s in
+        c .state s ∙ ap (λ (x : List St.Handler). S.setHandlers x (A.keepFrames (lowest k (t .frames)) t)) (sym (all-left k (t .handlers) n)) ∙ leave-cut k e s;
+    ready = c .ready;
   }
 
   lowest-operands : (m : ℕ) → View.operandsOf w (min (d .operands) m) ≡ lowest m (View.operandsOf w (d .operands))

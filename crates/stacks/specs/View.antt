@@ -4,8 +4,10 @@ use Rattle.stacks.specs.Layout.{slotLimit, frameLimit, handlerLimit, slo
 use Rattle.machine.specs.State.{operandLimit}
 use Rattle.machine.specs.Basic.{lowest}
 use Prim.Native.Nat.{ℕ, zero, suc, _+_, _-_, _*_, _≤_, _<_, max}
+use mathlib.Core.Bool.{Bool, false}
 use mathlib.Core.List.{List, [], _∷_, _++_}
 use mathlib.Core.Path.{_≡_}
+use lib.Dec.{ltb}
 use lib.ListN.{length, getD, set, replicate}
 use Rattle.value.specs.Arena.{Apart, set3}
 use Rattle.machine.specs.Program.{Program, make, failed}
@@ -142,6 +144,16 @@ Keeps d k p w r = Gives (A.keepFrames (framesOf w k p)) d w r
 
 abbrev pub Cuts : Depths → ℕ → List ℕ → Depths → Type 0
 Cuts d m w r = Gives (λ s. A.keepFrames (lowest m (s .frames)) s) d w r
+
+-- did the newest handler save more than k frames?
+abbrev pub savedMore : ℕ → List St.Handler → Bool
+savedMore k [] = false
+savedMore k (h ∷ hs) = ltb k (h .frames)
+
+-- of n handlers, those that are left over k frames
+pub record PendingOver (n k : ℕ) (w : List ℕ) (r : ℕ) : Type 0 where
+  pub state : handlersOf w r ≡ A.pendingOver k (handlersOf w n)
+  pub within : r ≤ n
 
 abbrev pub PopsFrame : Depths → List ℕ → Depths → Type 0
 PopsFrame d w r = Gives (A.apply A.popFrame) d w r

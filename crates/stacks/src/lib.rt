@@ -10,8 +10,8 @@ ghost use lib.ListN.{length};
 ghost use Rattle.machine.specs.State.{State};
 ghost use Rattle.machine.specs.Act.{push, pushHandler, store, pushFrame};
 ghost use Rattle.value.specs.Words.{valueOf, valueAt};
-ghost use Rattle.stacks.specs.Layout.{slotLimit, frameLimit, slotsAt, framesAt, handlersAt, stackWords};
-ghost use Rattle.stacks.specs.View.{onStacks, Ready, Pops, Makes, PopsHandler, Truncates, Keeps, Cuts, PopsFrame, Unwinds, frameAt, frameOf, handlerAt, handlerOf, topOf, slotOf, Filled, Puts, Saves, setFrame, above, Copies, Passes, called};
+ghost use Rattle.stacks.specs.Layout.{slotLimit, frameLimit, handlerLimit, slotsAt, framesAt, handlersAt, stackWords};
+ghost use Rattle.stacks.specs.View.{onStacks, Ready, Pops, Makes, PopsHandler, Truncates, Keeps, Cuts, handlersOf, savedMore, PendingOver, PopsFrame, Unwinds, frameAt, frameOf, handlerAt, handlerOf, topOf, slotOf, Filled, Puts, Saves, setFrame, above, Copies, Passes, called};
 ghost use Rattle.stacks.specs.Places.{Stands};
 ghost use Rattle.stacks.specs.declared.Made.the-variants.{Went};
 ghost use Rattle.machine.specs.State.{operandLimit};
@@ -279,12 +279,39 @@ pub fn greater(a: usize, b: usize) -> usize
     if a < b { b } else { a }
 }
 
-// The newest frame is taken off, with its slots.
+// Did the newest of n handlers save more than k frames?
+pub fn saved_more(n: usize, k: usize, stacks: &[u64]) -> bool
+    requires { ⌜ (n ≤ handlerLimit) × (length (now stacks) ≡ stackWords) ⌝ }
+    ensures { λ r. ⌜ r ≡ savedMore k (handlersOf (now (stacks .entry)) n) ⌝ }
+{
+    if n == 0 {
+        return false;
+    }
+    let saved = stacks[HANDLERS_AT + 3 * (n - 1) + 2];
+    (k as u64) < saved
+}
+
+// How many of n handlers are left over k frames: the newest go, as long as they saved more.
+pub fn pending_over(n: usize, k: usize, stacks: &[u64]) -> usize
+    requires { ⌜ (n ≤ handlerLimit) × (length (now stacks) ≡ stackWords) ⌝ }
+    ensures { λ r. ⌜ PendingOver n k (now (stacks .entry)) r ⌝ }
+{
+    let mut m = n;
+    while saved_more(m, k, stacks) {
+        m -= 1;
+    }
+    m
+}
+
+// The newest frame is taken off, with its slots and its handlers.
 pub fn pop_frame(d: Depths, stacks: &[u64]) -> Depths
     requires { ⌜ Ready d (now stacks) ⌝ }
     ensures { λ r. ⌜ PopsFrame d (now (stacks .entry)) r ⌝ }
 {
-    cut_frames(d, minus(d.frames, 1), stacks)
+    let k = minus(d.frames, 1);
+    let mut e = cut_frames(d, k, stacks);
+    e.handlers = pending_over(d.handlers, k, stacks);
+    e
 }
 
 // The newest handler is taken off, with what stands above the operands and frames that it saved.
