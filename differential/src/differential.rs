@@ -109,6 +109,11 @@ fn missing(seen: &Seen, written: &writing::Seen, least: usize) -> Vec<String> {
         all.push((format!("opcode {} with a number's text as change 4 has it", b), seen.code.amending[b]));
     }
     all.push(("a text call of such a number".into(), seen.code.amended_calls));
+    // change 5: handlers that go with their function; runs in which 000, that keeps them, takes another; and runs in which it does not come to that
+    all.push(("a handler dropped by Return".into(), seen.code.dropped[0]));
+    all.push(("a handler dropped at the end of the code".into(), seen.code.dropped[1]));
+    all.push(("a run in which 000 takes a dropped handler".into(), seen.code.stale));
+    all.push(("a run that drops a handler, compared with 000 unchanged".into(), seen.code.dropping));
     all.push(("a run compared with 000 unchanged".into(), seen.code.unchanged));
     let questions: [&[u64]; 10] =
         [&[], &[1, 2, 3, 4, 5, 6, 7, 8, 9], &[10, 23, 32], &[26, 27, 29, 30], &[26, 27, 29], &[29], &[10, 11], &[30, 31], &[29, 31], &[31]];

@@ -37,3 +37,11 @@ fn format_js_number(n: JsNumber) -> String {
     NUMBER_TEXTS.with(|c| c.set([all + 1, amended + usize::from(is_amended(n))]));
     text
 }
+
+impl JsVm {
+    /// Change 5 of document 02: a handler is dropped when the frames standing fall below the number it saved. Each one is asked.
+    fn drop_handlers(&mut self) {
+        let standing = self.call_stack.len();
+        self.try_stack.retain(|t| t.call_depth <= standing);
+    }
+}

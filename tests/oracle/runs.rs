@@ -20,10 +20,16 @@ pub struct Coverage {
     pub runs: usize,
     /// Texts of numbers that the runs made, and those of them that 000 writes otherwise.
     pub texts: [usize; 2],
-    /// The runs that made none of the latter, which are compared with 000 unchanged, those that made one, and those that an added limit ended.
+    /// Handlers that a Return dropped, and those that went where a frame ran off the end of its code.
+    pub dropped: [usize; 2],
+    /// The runs that are compared with 000 unchanged, those in which a change is met (a text that 000 writes otherwise; a handler that it would still have), and
+    /// those that an added limit ended.
     pub unchanged: usize,
     pub amended: usize,
     pub limited: usize,
+    /// Of the first, those that dropped a handler; of the second, those in which 000 would take a handler that was dropped.
+    pub dropping: usize,
+    pub stale: usize,
     /// The instructions that made such a text, by their opcodes, and the text calls.
     pub amending: Vec<usize>,
     pub amended_calls: usize,
@@ -31,7 +37,7 @@ pub struct Coverage {
 
 impl Coverage {
     pub fn new() -> Coverage {
-        Coverage { opcodes: vec![0; 256], ends: vec![0; 64], run_out: 0, caught: 0, steps: 0, most: 0, runs: 0, texts: [0; 2], unchanged: 0, amended: 0, limited: 0, amending: vec![0; 256], amended_calls: 0 }
+        Coverage { opcodes: vec![0; 256], ends: vec![0; 64], run_out: 0, caught: 0, steps: 0, most: 0, runs: 0, texts: [0; 2], dropped: [0; 2], unchanged: 0, amended: 0, limited: 0, dropping: 0, stale: 0, amending: vec![0; 256], amended_calls: 0 }
     }
 
     pub fn add(&mut self, c: &Coverage) {
@@ -48,6 +54,9 @@ impl Coverage {
         self.runs += c.runs;
         self.most = self.most.max(c.steps);
         self.texts = [self.texts[0] + c.texts[0], self.texts[1] + c.texts[1]];
+        self.dropped = [self.dropped[0] + c.dropped[0], self.dropped[1] + c.dropped[1]];
+        self.dropping += c.dropping;
+        self.stale += c.stale;
         self.unchanged += c.unchanged;
         self.amended += c.amended;
         self.limited += c.limited;
@@ -71,9 +80,10 @@ impl Coverage {
             amending.join(" "),
             self.amended_calls
         );
+        eprintln!("handlers dropped by Return: {}, at the end of the code: {}", self.dropped[0], self.dropped[1]);
         eprintln!(
-            "runs: {}; {} without such a text, compared with 000 unchanged; {} with one; {} at an added limit",
-            self.runs, self.unchanged, self.amended, self.limited
+            "runs: {}; {} compared with 000 unchanged, of which {} dropped a handler; {} that met a change, of which {} where 000 takes a dropped handler; {} at an added limit",
+            self.runs, self.unchanged, self.dropping, self.amended, self.stale, self.limited
         );
     }
 }
@@ -93,6 +103,29 @@ struct Observed {
     steps: usize,
     thrown: (Vec<u8>, String),
     end: Vec<u8>,
+    handlers: Handlers,
+}
+
+/// The handlers that 000 would have, which drops none, beside those that are pending.
+struct Handlers {
+    original: Vec<[usize; 3]>,
+    /// By Return, and at the end of the code.
+    dropped: [usize; 2],
+    /// A Throw went by another handler than 000 goes by: from there on they need not agree.
+    stale: bool,
+}
+
+impl Handlers {
+    /// An instruction, or the end of the code, that can change them; a Throw that has a value.
+    fn step(&mut self, op: Option<u8>, before: &[[usize; 3]], now: &[[usize; 3]]) {
+        match op {
+            Some(75) => self.original.extend_from_slice(&now[before.len()..]),
+            Some(76) => drop(self.original.pop()),
+            Some(74) => self.stale |= self.original.pop() != before.last().copied(),
+            Some(_) => self.dropped[0] += before.len() - now.len(),
+            None => self.dropped[1] += before.len() - now.len(),
+        }
+    }
 }
 
 /// The copy that makes one step at a time.
@@ -198,10 +231,12 @@ impl Stepper {
         self.whose.push((image, 0));
         let mut steps = 0;
         let mut thrown = (Vec::new(), String::new());
+        let mut handlers = Handlers { original: self.engine.vm.handlers(), dropped: [0; 2], stale: false };
         while steps < stop {
             let next = self.engine.vm.call_stack.last().and_then(|f| f.bytecode.get(f.ip)).copied();
             let frames = self.engine.vm.call_stack.len();
-            let handlers = self.engine.vm.handler_count();
+            let changing = matches!(next, None | Some(51 | 75 | 76)) || next == Some(74) && !self.engine.vm.stack.is_empty();
+            let pending = if changing { self.engine.vm.handlers() } else { Vec::new() };
             if next == Some(74) {
                 if let Some(v) = self.engine.vm.stack.last() {
                     thrown = (Vec::new(), v.to_js_string());
@@ -216,8 +251,11 @@ impl Stepper {
             }
             let went = matches!(end, Err(JsVmError::ExecutionLimitExceeded));
             let vm = &self.engine.vm;
-            if next == Some(74) && went && handlers > 0 {
+            if next == Some(74) && went && !pending.is_empty() {
                 seen.caught += 1;
+            }
+            if changing {
+                handlers.step(next, &pending, &vm.handlers());
             }
             let now = vm.call_stack.len();
             if now > self.whose.len() {
@@ -238,7 +276,7 @@ impl Stepper {
             }
         }
         let end = stepped::engine::end(&end, &thrown);
-        Ok(Observed { steps, thrown, end })
+        Ok(Observed { steps, thrown, end, handlers })
     }
 
     fn state(&self) -> Vec<u8> {
@@ -348,14 +386,22 @@ impl Judges {
         let state = self.state();
         assert_eq!(end, o.end, "the copy that is stepped ends otherwise");
         assert_eq!(state, self.stepper.state(), "the copy that is stepped leaves something else");
-        if made[1] == 0 {
+        let dropped = o.handlers.dropped;
+        seen.dropped = [seen.dropped[0] + dropped[0], seen.dropped[1] + dropped[1]];
+        if made[1] == 0 && !o.handlers.stale {
             seen.unchanged += 1;
             assert_eq!(plain::engine::end(&self.unchanged.run(&chunk), &o.thrown), end, "000 unchanged ends otherwise");
+            assert_eq!(self.unchanged_state(), state, "000 unchanged holds something else");
+            if dropped != [0; 2] {
+                seen.dropping += 1;
+                self.unchanged = plain::engine::Engine::holding(&self.stepper.engine.vm);
+            }
         } else {
             seen.amended += 1;
+            seen.stale += usize::from(o.handlers.stale);
             self.unchanged = plain::engine::Engine::holding(&self.stepper.engine.vm);
         }
-        assert_eq!(self.unchanged_state(), state, "000 unchanged holds something else");
+        assert_eq!(self.unchanged_state(), state, "000 unchanged takes something else");
         let value = match r {
             Ok(v) => v.to_js_string(),
             Err(amended::js_vm::JsVmError::UncaughtException { message }) => message,

@@ -127,6 +127,15 @@ pub fn short() -> Vec<Sample> {
             actions: vec![Action::Load, Action::SetGlobal(b"console".to_vec(), Given::Plain(Plain::Object(id))), Action::Run(0)],
         });
     }
+    // change 5: a function that returns out of one guarded block, out of three, runs off the end in one, leaves it first, returns nothing; then a throw where the
+    // caller has no handler, has one, has left it
+    for callee in [&[70, 75, 0, 0, 51][..], &[75, 0, 0, 75, 0, 1, 75, 0, 2, 70, 51], &[75, 0, 0], &[70, 75, 0, 0, 76, 51], &[75, 0, 0, 80, 51]] {
+        for caller in [&[70, 0, 0, 0, 50, 0, 74][..], &[75, 0, 10, 70, 0, 0, 0, 50, 0, 74, 255], &[75, 0, 11, 70, 0, 0, 0, 50, 0, 76, 74, 255]] {
+            let own = Template { parameters: 0, locals: 0, constants: vec![Const::Function(1)], code: caller.to_vec() };
+            let called = Template { parameters: 0, locals: 0, constants: vec![], code: callee.to_vec() };
+            all.push(Sample::run_one("special", Image { templates: vec![own, called] }));
+        }
+    }
     // handlers, frames and operands that a run leaves, met by the next: Halt in a function inside a try; a throw in the second image
     let inner = Template { parameters: 2, locals: 3, constants: vec![], code: vec![75, 0, 9, 1, 0, 0, 1, 0, 1, 255, 2, 0, 2, 1, 0, 1, 51] };
     let outer = Template {

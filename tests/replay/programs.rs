@@ -1,5 +1,5 @@
 //! Programs that the oracle's generator seldom makes: longer loops, texts built piece by piece, recursion, closures handed on, throws from deep
-//! inside, arrays filled by numeric keys, the step limit, and code of nothing but random bytes.
+//! inside, guarded blocks left in every way, arrays filled by numeric keys, the step limit, and code of nothing but random bytes.
 
 use crate::limits;
 use crate::sample::{Action, Const, Image, Rng, Sample, Template};
@@ -186,6 +186,48 @@ fn recursion(r: &mut Rng) -> Sample {
     let locals = r.below(5);
     let mut s = one("recursion", vec![c.template(0, 0), f.template(1 + r.below(2), locals)]);
     if r.once_in(3) {
+        s.actions.push(Action::Run(0));
+    }
+    s
+}
+
+/// Functions that leave their guarded blocks in every way, and throws after that: which handler is pending then, if any.
+fn guarding(r: &mut Rng) -> Sample {
+    let count = 2 + r.below(4);
+    let mut templates: Vec<Template> = Vec::new();
+    for own in 0..count {
+        let mut c = Code::default();
+        let mut places = Vec::new();
+        for _ in 0..1 + r.below(5) {
+            match r.below(7) {
+                0 | 1 => places.push(c.jump(75)),
+                2 => drop(c.op(76)),
+                3 => drop(c.load(whole(own as i64)).op(74)),
+                _ if own + 1 < count => drop(c.of(52, Const::Function(own + 1 + r.below(count - own - 1))).call(0).with(2, 0).print(&[0])),
+                _ => drop(c.load(text("echo")).with(2, 0)),
+            }
+        }
+        // a Return, the end of the code, a Halt; what is thrown is printed first
+        let mut ends = Vec::new();
+        let mut leave = |c: &mut Code, r: &mut Rng| match r.below(8) {
+            0..=3 => drop(c.load(whole(own as i64)).op(51)),
+            4 | 5 => ends.push(c.jump(40)),
+            6 => drop(c.load(text("again")).op(74)),
+            _ => drop(c.op(255)),
+        };
+        leave(&mut c, r);
+        for place in places {
+            c.land(place);
+            c.with(2, 1).print(&[1]);
+            leave(&mut c, r);
+        }
+        for end in ends {
+            c.land(end);
+        }
+        templates.push(c.template(0, r.below(3)));
+    }
+    let mut s = one("guarding", templates);
+    for _ in 0..r.below(3) {
         s.actions.push(Action::Run(0));
     }
     s
@@ -571,11 +613,12 @@ pub fn sample(r: &mut Rng) -> Sample {
     if r.once_in(64) {
         return piling(r);
     }
-    match r.below(6) {
+    match r.below(7) {
         0 => building(r),
         1 | 2 => recursion(r),
         3 => filling(r),
         4 => handing(r),
+        5 => guarding(r),
         _ => noise(r),
     }
 }
