@@ -103,6 +103,17 @@ __attribute__((no_sanitize("address", "undefined"))) static uint64_t sum(void) {
     return s;
 }
 
+/* Change 5: a pending handler saved at least its own frame, no more than stand, and no more than a newer one. */
+static void handlers_within(carderwheel_counts now) {
+    const uint64_t *handlers = (const uint64_t *)store[4] + 3 * CARDERWHEEL_OPERANDS + 3 * CARDERWHEEL_SLOTS + 5 * CARDERWHEEL_FRAMES;
+    uint64_t older = 1;
+    for (uint64_t i = 0; i < now.handlers; i++) {
+        uint64_t saved = handlers[3 * i + 2];
+        if (saved < older || saved > now.frames) wrong("a handler that outlives its function");
+        older = saved;
+    }
+}
+
 /* After a call: what it left in use, and, where a sum was made before it, that a refusal altered nothing. */
 static void settle(unsigned call, uint64_t answer, carderwheel_counts now, uint64_t before) {
     if (answer > 33) wrong("a number that document 01 does not have");
@@ -114,6 +125,7 @@ static void settle(unsigned call, uint64_t answer, carderwheel_counts now, uint6
             if (n[i] > most[i]) wrong("a count beyond its store");
             met[1024 + i * 32 + size_of(n[i])] = 1;
         }
+        handlers_within(now);
     }
     if (answer != 0 && before != 0) {
         if (memcmp(&now, &counts, sizeof now) != 0) wrong("a refusal that alters a count");

@@ -443,3 +443,11 @@ demand3 calls =
       throws = k .throws;
       tries = calls-each Enters enters calls fresh;
     }
+
+-- What holds before each call and after it holds of what the calls leave.
+leaves-orderly : (calls : List Call) (s : State) → Orderly s → All OrderlyCall (history s calls) → Orderly (leaves s calls)
+leaves-orderly [] s o a = o
+leaves-orderly (c ∷ cs) s o a = leaves-orderly cs (perform c s .after) (a .0 .2) (a .1)
+
+pub orderly-leaves : (calls : List Call) → Orderly (leaves fresh calls)
+orderly-leaves calls = leaves-orderly calls fresh (orderly fresh nothing fine-fresh) (demand3 calls .slots)

@@ -8,7 +8,7 @@ use native.Mathlib.Omega.{arith}
 use lib.Dec.{leb, ltb, eqb, T, ltb→lt}
 use lib.ListN.{length, take, drop, length-append, length-drop, length-map}
 use borrow.Author.Tests.{leb-true, le-leb}
-use Rattle.machine.specs.Basic.{if_then_else_, same, lowest, sum}
+use Rattle.machine.specs.Basic.{if_then_else_, same, filter, lowest, sum}
 use Rattle.machine.specs.Value.{Value, Text}
 use Rattle.machine.specs.State.{State, Bytes, bytes, Frame, Handler, Property, Name, console, kept, Global, array, Kind, bytesOf, nameBytes, isPair, isNamed, any, changeFirst, hasProperty, hasGlobal, nextText, fresh, topAt, endOf}
 use Rattle.machine.specs.State.{Store, codeStore, imageStore, frameStore, slotStore, handlerStore, functionStore, objectStore, propertyStore, globalStore, textStore, outputStore, used, operandLimit}
@@ -103,13 +103,13 @@ pending-over m n (h ∷ hs) a = go (leb (h .frames) n) refl (pending-over (h .fr
     go false e p = record { nested = p .nested; each = rw e (p .each) }
 
 -- The tally asks each one likewise.
-map-within : (n : ℕ) (hs : List Handler) → map savedBy (savedWithin n hs) ≡ T.savedWithin n (map savedBy hs)
-map-within n [] = refl
-map-within n (h ∷ hs) = go (leb (h .frames) n) (map-within n hs)
+map-filter : {A B : Type 0} (f : A → B) (p : B → Bool) (xs : List A) → map f (filter (λ x. p (f x)) xs) ≡ filter p (map f xs)
+map-filter f p [] = refl
+map-filter f p (x ∷ xs) = go (p (f x)) (map-filter f p xs)
   where
-    go : (b : Bool) → map savedBy (savedWithin n hs) ≡ T.savedWithin n (map savedBy hs)
-        → map savedBy (if b then h ∷ savedWithin n hs else savedWithin n hs) ≡ (if b then savedBy h ∷ T.savedWithin n (map savedBy hs) else T.savedWithin n (map savedBy hs))
-    go true e = ap (λ (x : List T.Saved). savedBy h ∷ x) e
+    go : (b : Bool) → map f (filter (λ y. p (f y)) xs) ≡ filter p (map f xs)
+        → map f (if b then x ∷ filter (λ y. p (f y)) xs else filter (λ y. p (f y)) xs) ≡ (if b then f x ∷ filter p (map f xs) else filter p (map f xs))
+    go true e = ap (λ ys. f x ∷ ys) e
     go false e = e
 
 -- Of the whole state
@@ -453,7 +453,7 @@ sound-leave : (fs : List Frame) (s : State) (t : Tally) (ns : List ℕ) → Fram
 sound-leave fs s t ns f r =
     let p = pending-over (length (s .frames)) (length fs) (s .handlers) (r .saved) in
     let e = F.frames-used fs (take (endOf fs) (s .slots)) ns f in
-    with-stacks s t r _ _ _ _ _ f (ap (map savedBy) (p .each) ∙ map-within (length fs) (s .handlers) ∙ ap₂ T.savedWithin e (r .handlers)) (p .nested)
+    with-stacks s t r _ _ _ _ _ f (ap (map savedBy) (p .each) ∙ map-filter savedBy (λ h. leb (h .frames) (length fs)) (s .handlers) ∙ ap₂ (λ (n : ℕ). filter (λ (h : T.Saved). leb (h .frames) n)) e (r .handlers)) (p .nested)
 
 pub sound : (a : Act) (s : State) (t : Tally) → error a s ≡ none → Sound s t → Sound (apply a s) (count a t)
 sound (A.push v) s t e r =

@@ -6,7 +6,7 @@ use mathlib.Core.List.{List, [], _∷_, _++_, map}
 use Prim.Native.Nat.{ℕ, zero, suc, _+_, _*_, _≤_, _<_, min}
 use lib.Dec.{leb, eqb}
 use lib.ListN.{length, getD}
-use Rattle.machine.specs.Basic.{if_then_else_, lowest, sumOf}
+use Rattle.machine.specs.Basic.{filter, lowest, sumOf}
 use Rattle.machine.specs.Value.{Value, Text, Home, inCode, inText}
 use Rattle.machine.specs.State.{State, Bytes, bytes, Frame, Handler, Store, fresh, running, bytesOf, endOf, limit, used, operandLimit, setIp, question}
 use Rattle.machine.specs.Act.{Given, Held, rest}
@@ -275,10 +275,9 @@ takesFrame (begun b) = eqb b 51
 takesFrame runOut = true
 takesFrame noFrame = false
 
--- the handlers that saved at most n frames, each one asked
+-- the handlers that saved at most n frames
 abbrev pub savedWithin : ℕ → List Handler → List Handler
-savedWithin n [] = []
-savedWithin n (h ∷ hs) = if leb (h .frames) n then h ∷ savedWithin n hs else savedWithin n hs
+savedWithin n = filter (λ h. leb (h .frames) n)
 
 pub record Dropped (t : Step) : Type 0 where
   pub frames : after (t .before) (t .outcome) .frames ≡ rest (t .before .frames)

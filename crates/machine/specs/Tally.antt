@@ -5,7 +5,7 @@ use mathlib.Core.List.{List, [], _∷_, _++_}
 use Prim.Native.Nat.{ℕ, _+_, _-_, min, max}
 use lib.Dec.{leb, ltb, eqb}
 use lib.ListN.{length}
-use Rattle.machine.specs.Basic.{if_then_else_, same, lowest, sum}
+use Rattle.machine.specs.Basic.{same, filter, lowest, sum}
 use Rattle.machine.specs.Value.{Value}
 use Rattle.machine.specs.State.{Store, codeStore, imageStore, frameStore, slotStore, handlerStore, functionStore, objectStore, propertyStore, globalStore, textStore, outputStore, consoleName, any}
 use Rattle.machine.specs.Act.{Act, push, drop, dropMany, jump, pushFrame, popFrame, store, pushHandler, popHandler, unwind, addFunction, addObject, addArray, putProperty, putGlobal, keepText, print, load, emptyOutput, Given, givenBytes, elements, rest}
@@ -138,14 +138,9 @@ abbrev pub reach : ℕ → List ℕ → List ℕ
 reach i [] = []
 reach i (n ∷ ns) = max n (i + 1) ∷ ns
 
--- The handlers that saved at most n frames.
-abbrev pub savedWithin : ℕ → List Saved → List Saved
-savedWithin n [] = []
-savedWithin n (h ∷ hs) = if leb (h .frames) n then h ∷ savedWithin n hs else savedWithin n hs
-
 -- A frame is taken off, and with it each handler that saved more frames than are left.
 abbrev pub left : List ℕ → Tally → Tally
-left ns t = tallyHandlers (savedWithin (length ns) (t .handlers)) (tallyFrames ns t)
+left ns t = tallyHandlers (filter (λ h. leb (h .frames) (length ns)) (t .handlers)) (tallyFrames ns t)
 
 -- A Throw takes the newest handler, and cuts operands and frames to the lowest that it saved.
 abbrev pub unwound : List Saved → Tally → Tally
