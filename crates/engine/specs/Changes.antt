@@ -43,8 +43,7 @@ module _ {g g′ : Tables} {m m′ : Mem} {c : Counts} {calls : List H.Call} {an
       × All (λ h. h .frames ≤ e .counts .depths .frames) (handlersOf (e .mem .stacks) (e .counts .depths .handlers))
   handlers-dropped =
       let d = demand3 k r in
-      let s : State = leaves fresh calls in
-      (
+      let s : State = leaves fresh calls in (
         d .0 .drops,
         d .0 .throws,
         d .1,

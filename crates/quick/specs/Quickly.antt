@@ -1,6 +1,7 @@
 -- What a quick instruction ensures, and how it is followed through the machine's program. Assumes nothing.
 use Prim.Native.Nat.{ℕ, _+_, _-_, _*_, _≤_, _<_, min}
 use native.Mathlib.Omega.{arith}
+use mathlib.Core.Bool.{false}
 use mathlib.Core.List.{List, _∷_}
 use mathlib.Core.Path.{_≡_, refl, sym, ap, subst, _∙_}
 use lib.ListN.{length, getD}
@@ -17,7 +18,7 @@ use Rattle.value.specs.Words.{valueAt, Holds}
 use Rattle.stacks.specs.Layout.{framesAt, handlersAt, handlerLimit}
 use Rattle.value.specs.Arena.{set3, set3-apart}
 use Rattle.stacks.specs.Laws.{withIp, withOperands, pop-state, pop-ready, push-holds, ready-ip, handler-went}
-use Rattle.stacks.specs.Cuts.{unwound, cut-all, keep-some}
+use Rattle.stacks.specs.Cuts.{unwound, cut-all, keep-some, left-handlers}
 use Rattle.stacks.specs.Places.{spot-within, spot-store}
 use Rattle.stacks.specs.declared.Handler.{Handler}
 use Rattle.stacks.specs.View
@@ -165,7 +166,7 @@ module _ {d : Depths} {w : List ℕ} (good : View.Ready d w) (h : d .operands �
   after-top t = carry (λ y m. after-look (λ s z. ap (λ (u : St.State). I.pushed (I.top (u .operands))) (pop-state d w good (newest d w) h refl s)) m) t
 
   -- Return: the value stays where it stands
-  pub returns-value : {H : St.State → Type 0} {b e f : Depths} → b ≡ withOperands (d .operands - 1) d → View.PopsFrame b w e → f ≡ withOperands (d .operands) e → Quickly H I.Return d w (Went f) w
+  returns-value : {H : St.State → Type 0} {b e f : Depths} → b ≡ withOperands (d .operands - 1) d → View.PopsFrame b w e → f ≡ withOperands (d .operands) e → Quickly H I.Return d w (Went f) w
   returns-value {b = b} {e = e} x k i =
       let n : e .operands ≡ d .operands - 1 = same-operands k ∙ ap (λ (y : Depths). y .operands) x in
       let k′ : View.PopsFrame (withOperands (d .operands - 1) d) w e = subst (λ (y : Depths). View.PopsFrame y w e) x k in
@@ -179,6 +180,13 @@ module _ {d : Depths} {w : List ℕ} (good : View.Ready d w) (h : d .operands �
       same-operands : View.PopsFrame b w e → e .operands ≡ b .operands
       same-operands g =
           sym (stack-length (λ i. valueAt w (0 + 3 * i)) (e .operands)) ∙ ap (λ (y : St.State). length (y .operands)) (g .state St.fresh) ∙ stack-length (λ i. valueAt w (0 + 3 * i)) (b .operands)
+
+  -- the same, where the newest handler saved no more frames than are left
+  pub returns-only : {H : St.State → Type 0} {b e f : Depths} {k : ℕ} → b ≡ withOperands (d .operands - 1) d → k ≡ d .frames - 1 → View.savedMore k (View.handlersOf w (d .handlers)) ≡ false
+      → View.Cuts b k w e → f ≡ withOperands (d .operands) e → Quickly H I.Return d w (Went f) w
+  returns-only {b = b} {e = e} {k = k} x q n c i =
+      returns-value x
+      (left-handlers b w (dropped-ready x good) k e (q ∙ sym (ap (λ (y : Depths). y .frames - 1) x)) (ap (λ (y : Depths). View.savedMore k (View.handlersOf w (y .handlers))) x ∙ n) c) i
 
   -- Throw, with a handler
   module _ {b u : Depths} (k : Handler) (x : b ≡ withOperands (d .operands - 1) d) (z : d .handlers ≡ 0 → ⊥)
