@@ -6,7 +6,7 @@ pub const OPERANDS: usize = 1024;
 pub const SLOTS: usize = 2048;
 /// Frames: a run's own, and one for each call in it.
 pub const FRAMES: usize = 64;
-/// Handlers that are pending: tries entered and not left.
+/// Handlers that are pending: tries entered and not left, by functions that have not ended.
 pub const HANDLERS: usize = 12;
 /// Functions made or registered.
 pub const FUNCTIONS: usize = 1024;
