@@ -13,16 +13,16 @@ use Rattle.machine.specs.State.{State, Frame, running}
 use Rattle.machine.specs.Fields as S
 use Rattle.machine.specs.Act as A
 use Rattle.machine.specs.Act.{apply}
-use Rattle.machine.specs.Program.{make, end, failed, went, ended, did, Outcome, noting, unlessError, exec}
+use Rattle.machine.specs.Program.{make, end, End, failed, went, ended, did, Outcome, noting, unlessError, exec}
 use Rattle.machine.specs.Instruction.{instruction}
 use Rattle.machine.specs.Run.{Kind, begun, runOut, noFrame, kindIn, kindOf, body}
 
-pub ended-not : {e : _} → ended e ≡ went → ⊥
-ended-not q = let z : _≡_ {A = ℕ} 0 1 = cc in omega arith
+pub ended-went : {e : End} → ended e ≡ went → ⊥
+ended-went q = let z : _≡_ {A = ℕ} 0 1 = cc in omega arith
 
 -- an act that goes on has no error
 pub no-error : (e : Option JsVmError) (s : State) (o : Outcome) → unlessError e s o .how ≡ went → unlessError e s o ≡ o
-no-error (some e) s o h = absurd (ended-not h)
+no-error (some e) s o h = absurd (ended-went h)
 no-error none s o h = refl
 
 -- The step's byte is k, and its place is within the code.

@@ -27,6 +27,7 @@ use Rattle.machine.proofs.Texts.{Holds, all-append, held-grows}
 use Rattle.machine.proofs.Sound.{sound-fresh}
 use Rattle.machine.proofs.Bounded.{bounded-fresh}
 use Rattle.machine.proofs.Programs.{Fine, Kept, kept, went-not}
+use Rattle.machine.proofs.Begun.{ended-went}
 use Rattle.machine.proofs.Charged.{right-stored, steps-stored, stored-append}
 use Rattle.machine.proofs.Steps.{KeptRun, kept-steps, orderly, have-bytes}
 use Rattle.machine.proofs.Enter.{enters, calls-each}
@@ -119,9 +120,6 @@ other-numbers (Call.drain n) s = other 31 (λ e. omega arith) (leb (length (s .o
 other-numbers Call.clear s = tt
 
 -- An accepted call tallies its act.
-
-ended-went : {e : End} → ended e ≡ went → ⊥
-ended-went q = let z : _≡_ {A = ℕ} 0 1 = cc in omega arith
 
 module _ (t : Tally) where
   -- what a program tallies where it goes on

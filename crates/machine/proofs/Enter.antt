@@ -19,7 +19,7 @@ use Rattle.machine.specs.Run.{begun, kindOf, body, Step, step, after, se
 use Rattle.machine.specs.Host.{Call, questions, makes, performed, perform, settledCall, accepted, history}
 use Rattle.machine.specs.Demand3.{All, Enters, wordAt}
 use Rattle.machine.specs.Tries.{tried, Tried}
-use Rattle.machine.proofs.Begun.{ended-not, in-frame}
+use Rattle.machine.proofs.Begun.{ended-went, in-frame}
 use Rattle.machine.proofs.Begun as B
 
 refused-not : {q : _} → refused q ≡ went → ⊥
@@ -30,7 +30,7 @@ module _ (s : State) (p : ℕ) (k : Program) where
   fetched : (b : Bool) → exec (if b then make (A.jump p) k else end (failed ipOutOfBounds)) s .how ≡ went
       → exec (if b then make (A.jump p) k else end (failed ipOutOfBounds)) s ≡ noting (did (A.jump p) []) (exec k (apply (A.jump p) s))
   fetched true h = refl
-  fetched false h = absurd (ended-not h)
+  fetched false h = absurd (ended-went h)
 
 -- room that was there
 granted : (b : Bool) (a : Act) (s : State) (n : Need) (o : Outcome) → answered b a s n o .how ≡ went → answered b a s n o .state ≡ o .state

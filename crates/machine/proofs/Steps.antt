@@ -1,18 +1,16 @@
 -- Steps and runs. Assumes nothing.
 use mathlib.Core.Path.{_≡_, refl, sym, ap, _∙_}
-use mathlib.Core.Bool.{Bool, true, false}
-use mathlib.Core.Option.{Option, none, some}
 use mathlib.Core.List.{List, [], _∷_, _++_}
 use mathlib.Core.Logic.{_↔_}
-use Prim.Native.Nat.{ℕ, zero, suc, _+_, _≤_, _<_}
+use Prim.Native.Nat.{ℕ, zero, suc, _+_}
 use native.Mathlib.Omega.{arith}
 use lib.ListN.{length}
 use Rattle.machine.specs.Value.{Value}
-use Rattle.machine.specs.Error.{JsVmError, executionLimitExceeded}
+use Rattle.machine.specs.Error.{executionLimitExceeded}
 use Rattle.machine.specs.State.{State, bytes, Store}
 use Rattle.machine.specs.Act as A
-use Rattle.machine.specs.Act.{Held, error, apply}
-use Rattle.machine.specs.Program.{End, How, went, ended, refused, Outcome, over, noting, did, unlessError, exec}
+use Rattle.machine.specs.Act.{Held, error}
+use Rattle.machine.specs.Program.{End, How, went, ended, refused, Outcome, exec}
 use Rattle.machine.specs.Instruction as I
 use Rattle.machine.specs.Run.{Kind, begun, runOut, noFrame, kindOf, body, Step, step, settled, after, Result, Ran, stopped, stepped, goOn, steps}
 use Rattle.machine.specs.Tally.{Tally, counted, unlessRefused}
@@ -21,6 +19,7 @@ use Rattle.machine.proofs.Texts.{Holds, all-append, all-map, held-grows
 use Rattle.machine.proofs.Sound.{nested-all}
 use Rattle.machine.proofs.Bounded.{bounded-used}
 use Rattle.machine.proofs.Programs.{Fine, Kept, kept, went-not, ended-not}
+use Rattle.machine.proofs.Begun.{ended-went, no-error}
 use Rattle.machine.proofs.Throw.{throws}
 use Rattle.machine.proofs.Leave.{drops}
 
@@ -54,16 +53,9 @@ settle (ended e) s t o hs f h k = record {
 settle (refused q) s t o hs f h k = record { fine = f; held = all-append (Holds (bytes s)) hs [] h tt }
 
 -- A finish with no frame ends the run.
-unless-went : (e : Option JsVmError) (s : State) (o : Outcome) → unlessError e s o .how ≡ went → o .how ≡ went
-unless-went (some n) s o q = let z : _≡_ {A = ℕ} 0 1 = cc in absurd (omega arith)
-unless-went none s o q = q
-
-ended-went : {e : End} → ended e ≡ went → _≡_ {A = ℕ} 1 0
-ended-went q = cc
-
 finish-ends : (vs : List Value) (s : State) → exec (I.finish vs) s .how ≡ went → _≡_ {A = ℕ} 1 0
-finish-ends [] s q = ended-went q
-finish-ends (v ∷ vs) s q = ended-went (unless-went (error A.drop s) s (noting (did A.drop []) (over (ended (End.finished v)) (apply A.drop s))) q)
+finish-ends [] s q = absurd (ended-went q)
+finish-ends (v ∷ vs) s q = absurd (ended-went (sym (ap (λ (o : Outcome). o .how) (no-error (error A.drop s) s _ q)) ∙ q))
 
 no-frame-ends : (k : Kind) (s : State) → exec (body k) s .how ≡ went → isNoFrame k ≡ 0
 no-frame-ends (begun b) s q = refl

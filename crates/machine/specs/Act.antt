@@ -74,6 +74,7 @@ abbrev pub pendingOver : ℕ → List Handler → List Handler
 pendingOver n [] = []
 pendingOver n (h ∷ hs) = if leb (h .frames) n then h ∷ hs else pendingOver n hs
 
+-- Only these frames stand, with their slots and handlers.
 abbrev pub leave : List Frame → State → State
 leave fs s = setHandlers (pendingOver (length fs) (s .handlers)) (keepFrames fs s)
 

@@ -179,6 +179,7 @@ returning = 0x46 ∷ 0x4B ∷ 0x00 ∷ 0x00 ∷ 0x33 ∷ []
 -- A handler goes with its function. A Return that gives 15, and a Halt, drop none.
 pub record Guarded : Type 0 where
   pub ranOff : runImage (coded (0x4B ∷ 0x00 ∷ 0x00 ∷ [])) ≡ record { end = 0; steps = 3; operands = 0; frames = 0; handlers = 0; value = ascii "undefined" }
+  pub allGo : runImage (coded (tries 12)) ≡ record { end = 0; steps = 14; operands = 0; frames = 0; handlers = 0; value = ascii "undefined" }
   pub returned : runImage (coded returning) ≡ record { end = 0; steps = 4; operands = 0; frames = 0; handlers = 0; value = ascii "undefined" }
   pub notReturned : runImage (coded (0x4B ∷ 0x00 ∷ 0x00 ∷ 0x33 ∷ [])) ≡ record { end = 15; steps = 2; operands = 0; frames = 1; handlers = 1; value = ascii "undefined" }
   pub halted : runImage (coded (0x4B ∷ 0x00 ∷ 0x00 ∷ 0xFF ∷ [])) ≡ record { end = 0; steps = 2; operands = 0; frames = 1; handlers = 1; value = ascii "undefined" }
@@ -190,7 +191,7 @@ pub record Guarded : Type 0 where
 
 pub guarded : Guarded
 unfolding stepLimit
-guarded = record { ranOff = refl; returned = refl; notReturned = refl; halted = refl; caught = refl; uncaught = refl }
+guarded = record { ranOff = refl; allGo = refl; returned = refl; notReturned = refl; halted = refl; caught = refl; uncaught = refl }
 
 -- Six digits are cut off the magnitude, and zero is judged after the cut. So raw 1 and raw -1 name element 0, and one half names no element.
 abbrev element : ℕ → State
