@@ -11,7 +11,7 @@ use Rattle.machine.specs.Act.{plain}
 use Rattle.machine.specs.Number as N
 use Rattle.machine.specs.NumberText.{longestText, numberAnswer}
 use Rattle.machine.specs.Host as H
-use Rattle.machine.specs.Host.{history, leaves}
+use Rattle.machine.specs.Host.{history}
 use Rattle.machine.specs.Tally.{nothing}
 use Rattle.machine.specs.Demand3.{All, Drops, ThrowsCalls}
 use Rattle.machine.specs.Tries.{Tried}
@@ -42,8 +42,7 @@ module _ {g g′ : Tables} {m m′ : Mem} {c : Counts} {calls : List H.Call} {an
   pub handlers-dropped : All (λ d. All Drops (d .steps)) (history fresh calls) × ThrowsCalls nothing (history fresh calls) × (answers ≡ Machine·Engine.answers (history fresh calls))
       × All (λ h. h .frames ≤ e .counts .depths .frames) (handlersOf (e .mem .stacks) (e .counts .depths .handlers))
   handlers-dropped =
-      let d = demand3 k r in
-      let s : State = leaves fresh calls in (
+      let d = demand3 k r in (
         d .0 .drops,
         d .0 .throws,
         d .1,

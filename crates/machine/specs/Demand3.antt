@@ -268,7 +268,8 @@ PendingCalls k [] = Unit {0}
 PendingCalls k (d ∷ ds) =
     let u = tallySteps (tallyStart k d) (d .steps) in PendingSteps (tallyStart k d) (d .steps) × Pending u (d .after) × PendingCalls u ds
 
--- Return, or running off the end: one that goes on has taken the newest frame off, and with it each handler that saved more frames than are left.
+-- Return, or running off the end: one that goes on has taken the newest frame off, and with it each handler that saved more frames than are
+-- left, and no other.
 
 abbrev pub takesFrame : Kind → Bool
 takesFrame (begun b) = eqb b 51

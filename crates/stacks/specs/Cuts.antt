@@ -161,12 +161,12 @@ module _ (d : Depths) (w : List ℕ) (good : View.Ready d w) where
       ap₂ (λ (fs : List St.Frame) (n : ℕ). S.setHandlers (A.pendingOver n (t .handlers)) (A.keepFrames fs t))
       (ap (λ (x : ℕ). lowest x (t .frames)) e ∙ sym (rest-rows (d .frames) refl)) (e ∙ sym rest-length)
 
-  pub left : (k h : ℕ) (r : Depths) → k ≡ d .frames - 1 → View.Cuts d k w r → View.PendingOver (d .handlers) k w h → View.PopsFrame d w (withHandlers h r)
-  left k h r e c p = record {
+  pub left : (k h : ℕ) (r : Depths) → k ≡ d .frames - 1 → View.PendingOver (d .handlers) k w h → View.Cuts (withHandlers h d) k w r → View.PopsFrame d w r
+  left k h r e p c = record {
     state = λ s.
         let t = View.onStacks d w s in
-        ap (S.setHandlers (View.handlersOf w h)) (c .state s) ∙ ap (λ (x : List St.Handler). S.setHandlers x (A.keepFrames (lowest k (t .frames)) t)) (p .state) ∙ leave-cut k e s;
-    ready = record { operands = c .ready .operands; slots = c .ready .slots; frames = c .ready .frames; handlers = omega (arith, good .handlers, p .within); size = good .size };
+        c .state s ∙ ap (λ (x : List St.Handler). S.setHandlers x (A.keepFrames (lowest k (t .frames)) t)) (p .state) ∙ leave-cut k e s;
+    ready = c .ready;
   }
 
   -- where no handler goes, the frames are all that is cut

@@ -309,9 +309,9 @@ pub fn pop_frame(d: Depths, stacks: &[u64]) -> Depths
     ensures { λ r. ⌜ PopsFrame d (now (stacks .entry)) r ⌝ }
 {
     let k = minus(d.frames, 1);
-    let mut e = cut_frames(d, k, stacks);
+    let mut e = d;
     e.handlers = pending_over(d.handlers, k, stacks);
-    e
+    cut_frames(e, k, stacks)
 }
 
 // The newest handler is taken off, with what stands above the operands and frames that it saved.

@@ -12,14 +12,14 @@ use Rattle.stacks.proofs.pending_over.Reads as pending-over-reads
 minus-requires : tie.Need-minus-requires
 minus-requires c κs = search needs
 
-cut-frames-requires : tie.Need-cut-frames-requires
-cut-frames-requires c κs = search needs
-
 pending-over-requires : tie.Need-pending-over-requires
 pending-over-requires c κs = search needs
 
+cut-frames-requires : tie.Need-cut-frames-requires
+cut-frames-requires c κs = search needs
+
 returns : tie.Need-returns
-returns c = left (c .before .before .before .before .args .d) (now (c .before .before .before .before .args .stacks)) (c .before .before .before .before .pre) (c .before .before .minus .result) (c .pending-over .result) (c .before .cut-frames .result) (c .before .before .minus .ensures) (c .before .cut-frames .ensures) (c .pending-over .ensures)
+returns c = left (c .before .before .before .before .args .d) (now (c .before .before .before .before .args .stacks)) (c .before .before .before .before .pre) (c .before .before .minus .result) (c .before .pending-over .result) (c .cut-frames .result) (c .before .before .minus .ensures) (c .before .pending-over .ensures) (c .cut-frames .ensures)
 
 pub pop-frame-spec : {M : Type 1} → statement M
-pop-frame-spec = tie.close (tie.spec minus-requires cut-frames-requires pending-over-requires returns)
+pop-frame-spec = tie.close (tie.spec minus-requires pending-over-requires cut-frames-requires returns)
