@@ -70,7 +70,7 @@ fn given(g: &Given) -> String {
             Plain::Object(o) => format!("(Given.plain (Value.object {:#x}))", o),
             Plain::Function(f) => format!("(Given.plain (Value.function {:#x}))", f),
             Plain::InCode(at, bs) => {
-                format!("(Given.plain (Value.text (record {{ store = Home.inCode; at = {}; size = {} }})))", at, bs.len())
+                format!("(Given.plain (Value.text (record {{ store = Home.in_code; at = {}; size = {} }})))", at, bs.len())
             }
         },
     }
@@ -94,14 +94,12 @@ fn calls(sample: &Sample) -> Vec<String> {
 
 const HEAD: &str = "\
 -- Made by tests/oracle/make: do not edit. Each sample is a list of host calls and what the Rust of documents 000 to 002 came to on it.
-use mathlib.Core.Path.{_≡_, refl}
-use mathlib.Core.Bool.{Bool, true, false}
-use mathlib.Core.List.{List, [], _∷_}
-use Rattle·machine.specs.Value.{Value, Home}
-use Rattle·machine.specs.Act.{Given}
-use Rattle·machine.specs.Run.{stepLimit}
-use Rattle·machine.specs.Host.{Call}
-use Rattle·oracle·specs.specs.Summary.{hex, agrees}
+use Rattle.std.specs.Prelude.{◌≡◌, refl, Bool, true, false, List, [], ◌∷◌}
+use Rattle.machine.specs.Value.{Value, Home}
+use Rattle.machine.specs.Act.{Given}
+use Rattle.machine.specs.Run.{stepLimit}
+use Rattle.machine.specs.Host.{Call}
+use Rattle.oracle.specs.Summary.{hex, agrees}
 ";
 
 fn module(samples: &[(Sample, Vec<u8>)]) -> String {
