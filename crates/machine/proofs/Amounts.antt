@@ -2,14 +2,14 @@
 use mathlib.Core.Path.{◌≡◌, refl, sym, ap, ◌∙◌}
 use mathlib.Core.Bool.{Bool, true, false}
 use mathlib.Core.List.{List, [], ◌∷◌, ◌++◌, map}
-use Prim.Native.Nat.{ℕ, zero, suc, ◌+◌, ◌-◌, ◌≤◌, ◌<◌, max}
+use Prim.Native.Nat.{ℕ, ◌+◌}
 use native.Mathlib.Omega.{arith}
 use lib.ListN.{length, length-append}
 use Rattle.machine.specs.Basic.{same, sum, sum_of}
-use Rattle.machine.specs.Value.{Value, Text, Home, in_code, inText}
+use Rattle.machine.specs.Value.{Value, in_code}
 use Rattle.machine.specs.Image.{Template, Constant, Read}
 use Rattle.machine.specs.Image as I
-use Rattle.machine.specs.State.{State, Frame, Store, objectStore, propertyStore, globalStore, textStore, hasProperty, hasGlobal, any}
+use Rattle.machine.specs.State.{State, Frame, hasProperty, hasGlobal, any}
 use Rattle.machine.specs.Act as A
 use Rattle.machine.specs.Act.{Act, Need, needs, elements, Held, brings}
 use Rattle.machine.specs.Tally as T

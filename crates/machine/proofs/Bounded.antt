@@ -1,17 +1,17 @@
 -- No store ever holds more than its limit: every act keeps it so where its space questions are answered yes. Assumes nothing.
 use mathlib.Core.Path.{◌≡◌, refl, ap}
 use mathlib.Core.Bool.{Bool, true, false}
-use mathlib.Core.Option.{Option, none, some}
-use mathlib.Core.List.{List, [], ◌∷◌, ◌++◌}
-use Prim.Native.Nat.{ℕ, zero, suc, ◌+◌, ◌-◌, ◌≤◌, ◌<◌}
+use mathlib.Core.Option.{none}
+use mathlib.Core.List.{List, [], ◌∷◌}
+use Prim.Native.Nat.{ℕ, suc, ◌+◌, ◌-◌, ◌≤◌}
 use native.Mathlib.Omega.{arith}
 use lib.Dec.{leb, leb→le}
-use lib.ListN.{length, take, drop, length-append, length-drop, length-take, length-set, length-replicate}
+use lib.ListN.{length, take, length-append, length-drop, length-take, length-set, length-replicate}
 use Rattle.machine.specs.Basic.{lowest, sum_of}
 use Rattle.std.specs.Prelude.{if◌then◌else◌}
 use Rattle.machine.specs.Value.{Value, Text}
 use Rattle.machine.specs.Image.{Template}
-use Rattle.machine.specs.State.{State, Bytes, bytes, Frame, Handler, Function, Kind, array, Property, Global, fresh, end_of, changeFirst, isNamed, hasProperty, hasGlobal}
+use Rattle.machine.specs.State.{State, Bytes, Frame, Handler, Function, Kind, array, Property, Global, fresh, end_of, changeFirst, isNamed, hasProperty, hasGlobal}
 use Rattle.machine.specs.State.{Store, codeStore, imageStore, frameStore, slotStore, handlerStore, functionStore, objectStore, propertyStore, globalStore, textStore, outputStore, limit, used, operandLimit}
 use Rattle.machine.specs.Fields as S
 use Rattle.machine.specs.Act as A

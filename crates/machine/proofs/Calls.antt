@@ -1,22 +1,22 @@
 -- Calls and lists of calls: demand 3. Assumes nothing.
 use mathlib.Core.Path.{◌≡◌, refl, sym, ap, ◌∙◌, subst}
-use mathlib.Core.Bool.{Bool, true, false, ◌&&◌, true≢false}
+use mathlib.Core.Bool.{Bool, true, false, ◌&&◌}
 use mathlib.Core.Option.{Option, none, some}
 use mathlib.Core.List.{List, [], ◌∷◌, ◌++◌}
 use mathlib.Core.Logic.{◌↔◌}
-use Prim.Native.Nat.{ℕ, zero, suc, ◌+◌, ◌≤◌, ◌<◌}
+use Prim.Native.Nat.{ℕ, ◌+◌, ◌≤◌}
 use native.Mathlib.Omega.{arith}
-use lib.Dec.{leb, ltb, eqb, leb→le}
+use lib.Dec.{leb, ltb, leb→le}
 use lib.ListN.{length, get_or}
 use Rattle.machine.specs.Basic.{isAscii}
-use Rattle.machine.specs.Value.{Value, Text}
+use Rattle.machine.specs.Value.{Value}
 use Rattle.machine.specs.Image.{Template, Read, image}
 use Rattle.machine.specs.Error.{JsVmError}
 use Rattle.machine.specs.State.{State, Bytes, bytes, store_of, bytes_of, question, fresh}
 use Rattle.machine.specs.State.{Store, codeStore, imageStore, frameStore, slotStore, handlerStore, functionStore, objectStore, propertyStore, globalStore, textStore, outputStore}
 use Rattle.machine.specs.Act.{Act, Given, Held, Need, needs, apply, error, brings}
-use Rattle.machine.specs.Program.{Program, next, make, End, Event, How, went, ended, refused, Outcome, over, noting, did, fits, answered, asking, unlessError, exec}
-use Rattle.machine.specs.Run.{Step, Result, Ran, steps, stepLimit}
+use Rattle.machine.specs.Program.{next, make, End, Event, How, went, ended, refused, Outcome, over, noting, did, fits, answered, asking, unlessError, exec}
+use Rattle.machine.specs.Run.{steps, stepLimit}
 use Rattle.machine.specs.Host as H
 use Rattle.machine.specs.Host.{Call, Answer, Called, perform, performed, settledCall, refusedCall, accepted, simply, questions, makes, ask, refusalRead, history, leaves}
 use Rattle.machine.specs.Tally.{Tally, count, counted, nothing}
@@ -29,7 +29,7 @@ use Rattle.machine.proofs.Bounded.{bounded-fresh}
 use Rattle.machine.proofs.Programs.{Fine, Kept, kept, went-not}
 use Rattle.machine.proofs.Begun.{ended-went}
 use Rattle.machine.proofs.Charged.{right-stored, steps-stored, stored-append}
-use Rattle.machine.proofs.Steps.{KeptRun, kept-steps, orderly, have-bytes}
+use Rattle.machine.proofs.Steps.{kept-steps, orderly, have-bytes}
 use Rattle.machine.proofs.Enter.{enters, calls-each}
 
 pub fine-fresh : Fine fresh nothing

@@ -4,7 +4,7 @@ use mathlib.Core.Path.{◌≡◌, refl, sym, ap, ap₂, ◌∙◌}
 use mathlib.Core.Bool.{Bool, true, false, ◌&&◌}
 use mathlib.Core.Option.{Option, none, some}
 use mathlib.Core.List.{List, [], ◌∷◌, ◌++◌, map, append_assoc, append-nil}
-use Prim.Native.Nat.{ℕ, zero, suc, ◌+◌, ◌-◌, ◌*◌, ◌/◌, ◌%◌, ◌^◌, ◌≤◌, ◌<◌}
+use Prim.Native.Nat.{ℕ, zero, suc, ◌+◌, ◌*◌, ◌/◌, ◌%◌, ◌^◌, ◌≤◌, ◌<◌}
 use native.Mathlib.Omega.{arith}
 use lib.Dec.{leb, ltb, eqb}
 use lib.ListN.{length, take, drop, get_or, length-append}
@@ -12,13 +12,12 @@ use lib.Seq.{take-append_seam, drop-append_seam, drop-append-add, drop_at}
 use borrow.Author.Tests.{le-leb}
 use Rattle.machine.specs.Basic.{isAscii}
 use Rattle.std.specs.Prelude.{if◌then◌else◌}
-use Rattle.machine.specs.Value.{Text, Home, in_code, inText}
+use Rattle.machine.specs.Value.{in_code}
 use Rattle.machine.specs.Image as I
 use Rattle.machine.specs.Image.{Read, Reader, refused, got, ◌>>=◌}
 use Rattle.machine.specs.State.{Bytes, bytes_of}
 use Rattle.machine.specs.Act.{flat_map}
 use Rattle.machine.specs.Host.{ask}
-use Rattle.machine.specs.Format
 use Rattle.machine.specs.Format.{Constant, Template, word, wideOnto, constant_bytes, templateBytes, encode, orNext, judgeConstant, judgeConstants, judgeTemplates, judge}
 use Rattle.machine.specs.Format.{placedConstant, placedConstants, placedTemplate, placedTemplates, placed, read_of, constantIn, templateIn}
 use Rattle.machine.specs.Demand3.{All}

@@ -1,13 +1,13 @@
 -- The text constants of an image that is read lie inside its bytes, and a refusal has a number from 1 to 7. Assumes nothing.
-use mathlib.Core.Path.{◌≡◌, refl, sym, ap, ◌∙◌}
+use mathlib.Core.Path.{◌≡◌, refl}
 use mathlib.Core.Bool.{Bool, true, false, ◌&&◌}
-use mathlib.Core.List.{List, [], ◌∷◌, ◌++◌}
-use Prim.Native.Nat.{ℕ, zero, suc, ◌+◌, ◌-◌, ◌*◌, ◌≤◌, ◌<◌}
+use mathlib.Core.List.{List, [], ◌∷◌}
+use Prim.Native.Nat.{ℕ, zero, suc, ◌+◌, ◌*◌, ◌≤◌}
 use native.Mathlib.Omega.{arith}
-use lib.Dec.{leb, ltb, eqb, T, leb→le}
+use lib.Dec.{leb, ltb, eqb, leb→le}
 use lib.ListN.{length, take, drop, get_or, length-drop}
 use Rattle.machine.specs.Basic.{isAscii}
-use Rattle.machine.specs.Value.{Text, Home, in_code, inText}
+use Rattle.machine.specs.Value.{Text, in_code}
 use Rattle.machine.specs.Image as I
 use Rattle.machine.specs.Image.{Constant, Template, Read, Reader, refused, got, ◌>>=◌}
 use Rattle.machine.specs.Demand3.{All}

@@ -1,6 +1,6 @@
 -- Change 4 of document 02, the text of a number: how long it is, that of a whole number, how near it is, on which numbers it is another than that of 000, and
 -- what the text call answers. Assumes nothing.
-use mathlib.Core.Path.{◌≡◌, refl, sym, ap, ap₂, ◌∙◌}
+use mathlib.Core.Path.{◌≡◌, refl, sym, ap, ◌∙◌}
 use mathlib.Core.Bool.{Bool, true, false, not, ◌&&◌, ◌||◌, true≢false, and-true, and-false}
 use mathlib.Core.List.{List, [], ◌∷◌, ◌++◌, reverse, reverse-append, reverse-reverse, append-nil}
 use mathlib.Core.Logic.{◌↔◌}

@@ -3,7 +3,7 @@
 use mathlib.Core.Path.{◌≡◌, refl, sym, ap, ap₂, ◌∙◌, subst}
 use mathlib.Core.Bool.{Bool, true, false, not, ◌&&◌, ◌||◌, true≢false}
 use mathlib.Core.List.{List, [], ◌∷◌}
-use Prim.Native.Nat.{ℕ, ◌+◌, ◌-◌, ◌≤◌, ◌<◌}
+use Prim.Native.Nat.{ℕ, ◌+◌, ◌≤◌, ◌<◌}
 use native.Mathlib.Omega.{arith}
 use lib.Dec.{leb, ltb, eqb}
 use lib.ListN.{length}
@@ -12,7 +12,7 @@ use Rattle.std.specs.Prelude.{if◌then◌else◌}
 use Rattle.machine.specs.Error.{unknownOpcode}
 use Rattle.machine.specs.State.{State, Frame, fresh}
 use Rattle.machine.specs.Act as A
-use Rattle.machine.specs.Program.{Program, end, failed, How, went, Outcome, noting, did, exec}
+use Rattle.machine.specs.Program.{Program, end, failed, How, went, ended, refused, Outcome, noting, did, exec}
 use Rattle.machine.specs.Instruction as I
 use Rattle.machine.specs.Instruction.{instruction}
 use Rattle.machine.specs.Run.{step, settled, after}
@@ -21,7 +21,7 @@ use Rattle.machine.specs.Demand3.{All}
 use Rattle.machine.specs.Opcodes.{Row, row, number, row_of, rowFor, following, Listed, AsListed, isCounting, isLeaving}
 use Rattle.machine.proofs.Begun.{here, fetched, begins, in_frame}
 use Rattle.machine.proofs.Enter.{calls-each}
-use Rattle.machine.proofs.Shapes.{Shape, bytesIn, takenIn, pushedIn, fixed, stays, left, Standing, Obeys, Always, shapes, Ruled, last, also, ruled}
+use Rattle.machine.proofs.Shapes.{Shape, plain-question, bytesIn, takenIn, pushedIn, fixed, stays, left, Standing, Obeys, Always, shapes, Ruled, last, also, ruled}
 
 abbrev shape_row : Shape → Row
 shape_row x = row (bytesIn x) (if fixed x then takenIn x else 254) (pushedIn x)
@@ -112,13 +112,19 @@ reached m n f = go (leb n m) refl
     go true e = leb-true n m e
     go false e = absurd (f (leb-false n m e))
 
+-- Only a space question restores the state, and each has a number.
+unrefused : (s : State) (h : How) (t : State) → number h ≡ 0 → settled s h t ≡ t
+unrefused s went t e = refl
+unrefused s (ended x) t e = refl
+unrefused s (refused q) t e = absurd ((plain-question q).not0 e)
+
 module _ (s : State) (b : ℕ) (o : Outcome) where
   listed-unknown : number o.how ≡ 13 → Listed s b (row 255 255 255) o
   listed-unknown e = record {
     known = ((λ q. refl), (λ q. e));
     cut = λ n. absurd (n e);
     short = λ n. absurd (n e);
-    moves = λ c l w. let z : number o.how ≡ 0 = ap number w in absurd (omega arith);
+    moves = λ c l w. absurd (omega arith);
   }
 
   -- o is what the program comes to, from a state with as many bytes left and the same operands
@@ -139,13 +145,12 @@ module _ (s : State) (b : ℕ) (o : Outcome) where
           moves = λ c d w.
               let f : fixed x ≡ true = k.counting ∙ ap not c in
               let g : stays x ≡ true = k.leaving ∙ ap₂ (λ (i j : Bool). not (i || j)) c d in
-              let w₁ : (exec p s₁).how ≡ went = ap (λ (z : Outcome). z.how) eo ∙ w in
-              let z₁ : number (exec p s₁).how ≡ 0 = ap number w₁ in
+              let z : number (exec p s₁).how ≡ 0 = h ∙ w in
               let l : bytesIn x ≤ left s₁ = reached (left s₁) (bytesIn x) (λ m. let q = y.cut st m in omega arith) in
               let t : takenIn x ≤ length s₁.operands = reached (length s₁.operands) (takenIn x) (λ m. let q = y.short f l m in omega arith) in
               let a : length (exec p s₁).state.operands ≡ length (after s o).operands =
-              ap (λ (z : Outcome). length z.state.operands) eo ∙ sym (ap (λ (z : How). length (settled s z o.state).operands) w) in
-              rw f (let q = y.moves g l t w₁ in omega arith);
+              ap (λ (z : Outcome). length z.state.operands) eo ∙ sym (ap (λ (t : State). length t.operands) (unrefused s o.how o.state w)) in
+              rw f (let q = y.moves g l t z in omega arith);
         }
 
     listed_found : Found b p → Listed s b (row_of p) o

@@ -1,16 +1,16 @@
 -- Whatever a program does, the tally stays right, no store is overfull and held texts keep their bytes: one induction over programs.
 -- Assumes nothing.
-use mathlib.Core.Path.{◌≡◌, refl, sym, ap, ◌∙◌}
+use mathlib.Core.Path.{◌≡◌, refl, ap}
 use mathlib.Core.Bool.{Bool, true, false, true≢false}
 use mathlib.Core.Option.{Option, none, some}
-use mathlib.Core.List.{List, [], ◌∷◌, ◌++◌}
+use mathlib.Core.List.{List, [], ◌∷◌}
 use mathlib.Core.Logic.{◌↔◌}
-use Prim.Native.Nat.{ℕ, zero, suc, ◌+◌, ◌≤◌, ◌<◌}
+use Prim.Native.Nat.{ℕ, ◌+◌, ◌≤◌, ◌<◌}
 use native.Mathlib.Omega.{arith}
 use lib.Dec.{leb, leb→le, nleb→lt}
 use Rattle.machine.specs.Error.{JsVmError}
 use Rattle.machine.specs.State.{State, bytes, Store, limit, used}
-use Rattle.machine.specs.Act.{Act, apply, error, Need, needs, Held, brings}
+use Rattle.machine.specs.Act.{Act, apply, error, Need, needs, brings}
 use Rattle.machine.specs.Program.{Program, next, end, look, make, End, Event, asked, did, How, went, ended, refused, Outcome, over, noting, fits, answered, asking, unlessError, exec}
 use Rattle.machine.specs.Tally.{Tally, count, counted, useOf}
 use Rattle.machine.specs.Demand3.{All, Right, refusedLast, broughtBy}

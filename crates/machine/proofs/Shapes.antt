@@ -21,11 +21,10 @@ use Rattle.machine.specs.State.{codeStore, imageStore, frameStore, slotStore, ha
 use Rattle.machine.specs.Fields as S
 use Rattle.machine.specs.Act as A
 use Rattle.machine.specs.Act.{Act, apply, error, Need, needs, brings}
-use Rattle.machine.specs.Program.{Program, next, end, look, make, End, failed, How, went, ended, refused, Outcome, noting, did, fits, answered, asking, unlessError, exec}
+use Rattle.machine.specs.Program.{Program, next, end, look, make, End, finished, failed, How, ended, refused, Outcome, noting, did, fits, answered, asking, unlessError, exec}
 use Rattle.machine.specs.Instruction as I
 use Rattle.machine.specs.Instruction.{current, currentIp}
 use Rattle.machine.specs.Opcodes.{number}
-use Rattle.machine.proofs.Begun.{ended-went, refused-went}
 
 pub data Shape : Type 0 where
   -- it pushes so many, and goes on
@@ -93,7 +92,7 @@ pub record Obeys (x : Shape) (q : Program) (s : State) : Type 0 where
   pub known : number (exec q s).how ≡ 13 → ⊥
   pub short : fixed x ≡ true → bytesIn x ≤ left s → length s.operands < takenIn x → number (exec q s).how ≡ 15
   pub enough : fixed x ≡ true → bytesIn x ≤ left s → takenIn x ≤ length s.operands → number (exec q s).how ≡ 15 → ⊥
-  pub moves : stays x ≡ true → bytesIn x ≤ left s → takenIn x ≤ length s.operands → (exec q s).how ≡ went
+  pub moves : stays x ≡ true → bytesIn x ≤ left s → takenIn x ≤ length s.operands → number (exec q s).how ≡ 0
       → length (exec q s).state.operands + takenIn x ≡ length s.operands + pushedIn x
 
 abbrev pub Always : Shape → Program → Type 0
@@ -101,34 +100,35 @@ Always x q = (s : State) → Obeys x q s
 
 -- How a program can end at once
 
--- Neither 13, 14 nor 15.
-record Plain (n : ℕ) : Type 0 where
+-- A number other than 13, 14 and 15.
+pub record Plain (n : ℕ) : Type 0 where
+  pub not0 : n ≡ 0 → ⊥
   not13 : n ≡ 13 → ⊥
   not14 : n ≡ 14 → ⊥
   not15 : n ≡ 15 → ⊥
 
-plain : {n : ℕ} → eqb n 13 ≡ false → eqb n 14 ≡ false → eqb n 15 ≡ false → Plain n
-plain {n} a b c = record { not13 = eqb-false n 13 a; not14 = eqb-false n 14 b; not15 = eqb-false n 15 c }
+plain : {n : ℕ} → eqb n 0 ≡ false → eqb n 13 ≡ false → eqb n 14 ≡ false → eqb n 15 ≡ false → Plain n
+plain {n} z a b c = record { not0 = eqb-false n 0 z; not13 = eqb-false n 13 a; not14 = eqb-false n 14 b; not15 = eqb-false n 15 c }
 
-plain-question : (q : Store) → Plain (question q)
-plain-question codeStore = plain refl refl refl
-plain-question imageStore = plain refl refl refl
-plain-question frameStore = plain refl refl refl
-plain-question slotStore = plain refl refl refl
-plain-question handlerStore = plain refl refl refl
-plain-question functionStore = plain refl refl refl
-plain-question objectStore = plain refl refl refl
-plain-question propertyStore = plain refl refl refl
-plain-question globalStore = plain refl refl refl
-plain-question textStore = plain refl refl refl
-plain-question outputStore = plain refl refl refl
+pub plain-question : (q : Store) → Plain (question q)
+plain-question codeStore = plain refl refl refl refl
+plain-question imageStore = plain refl refl refl refl
+plain-question frameStore = plain refl refl refl refl
+plain-question slotStore = plain refl refl refl refl
+plain-question handlerStore = plain refl refl refl refl
+plain-question functionStore = plain refl refl refl refl
+plain-question objectStore = plain refl refl refl refl
+plain-question propertyStore = plain refl refl refl refl
+plain-question globalStore = plain refl refl refl refl
+plain-question textStore = plain refl refl refl refl
+plain-question outputStore = plain refl refl refl refl
 
 -- What a shape that reads and takes nothing more says of an outcome: n operands stood, and m are left.
 record Tail (x : Shape) (n : ℕ) (h : How) (m : ℕ) : Type 0 where
   unread : number h ≡ 14 → ⊥
   known : number h ≡ 13 → ⊥
   untaken : fixed x ≡ true → number h ≡ 15 → ⊥
-  moves : stays x ≡ true → h ≡ went → m ≡ n + pushedIn x
+  moves : stays x ≡ true → number h ≡ 0 → m ≡ n + pushedIn x
 
 -- It reads and takes nothing.
 abbrev isTail : Shape → Bool
@@ -167,20 +167,26 @@ to-tail x q s e o =
       moves = λ f w. let z = o.moves f (omega arith) (omega arith) w in omega arith;
     }
 
-tail-plain : (x : Shape) (n m : ℕ) (h : How) → Plain (number h) → (h ≡ went → ⊥) → Tail x n h m
-tail-plain x n m h p w = record { unread = p.not14; known = p.not13; untaken = λ f. p.not15; moves = λ f e. absurd (w e) }
+tail-plain : (x : Shape) (n m : ℕ) (h : How) → Plain (number h) → Tail x n h m
+tail-plain x n m h p = record { unread = p.not14; known = p.not13; untaken = λ f. p.not15; moves = λ f e. absurd (p.not0 e) }
 
 tail-refused : (x : Shape) (n m : ℕ) (q : Store) → Tail x n (refused q) m
-tail-refused x n m q = tail-plain x n m (refused q) (plain-question q) refused-went
+tail-refused x n m q = tail-plain x n m (refused q) (plain-question q)
 
 -- The parts of programs
 
 goes : (s : State) → Obeys (pushes 0) next s
 goes s = of-tail (pushes 0) next s refl (record { unread = λ e. omega arith; known = λ e. omega arith; untaken = λ f e. omega arith; moves = λ f w. omega arith })
 
--- a run's end, or an error with another number
+-- an error with another number
 ends : {x : Shape} {e : End} {s : State} → isTail x ≡ true → Plain (number (ended e)) → Obeys x (end e) s
-ends {x} {e} {s} t p = of-tail x (end e) s t (tail-plain x _ _ (ended e) p ended-went)
+ends {x} {e} {s} t p = of-tail x (end e) s t (tail-plain x _ _ (ended e) p)
+
+-- a run's end without an error
+finishes : {x : Shape} {v : Value} {s : State} → isTail x ≡ true → stays x ≡ false → Obeys x (end (finished v)) s
+finishes {x} {v} {s} t f =
+    of-tail x (end (finished v)) s t
+    (record { unread = λ e. omega arith; known = λ e. omega arith; untaken = λ g e. omega arith; moves = λ g. absurd (true≢false (sym g ∙ f)) })
 
 looks : {x : Shape} {f : State → Program} {s : State} → Obeys x (f s) s → Obeys x (look f) s
 looks o = record { cut = o.cut; uncut = o.uncut; known = o.known; short = o.short; enough = o.enough; moves = o.moves }
@@ -222,7 +228,7 @@ tail-pushing : (b : Bool) (v : Value) (s : State) (q : Program) → (x : Shape) 
     → Tail x n (exec q (apply (A.push v) s)).how (length (exec q (apply (A.push v) s)).state.operands)
     → (let o = unlessError (if b then none else some stackOverflow) s (noting (did (A.push v) []) (exec q (apply (A.push v) s))) in Tail x n o.how (length o.state.operands))
 tail-pushing true v s q x n t = t
-tail-pushing false v s q x n t = tail-plain x n _ (ended (failed stackOverflow)) (plain refl refl refl) ended-went
+tail-pushing false v s q x n t = tail-plain x n _ (ended (failed stackOverflow)) (plain refl refl refl refl)
 
 gives : {v : Value} {s : State} → Obeys (pushes 1) (I.pushed v) s
 gives {v} {s} =
@@ -389,10 +395,10 @@ entering {c} {s} = go s.frames refl
         let σ : s ≡ S.setFrames [] s = λ i. S.setFrames (e i) s in
         subst (Obeys (pushes 0) (make (A.pushHandler c) next)) (sym σ)
         (of-tail (pushes 0) (make (A.pushHandler c) next) (S.setFrames [] s) refl
-        (tail-plain (pushes 0) _ _ (ended (failed noCallFrame)) (plain refl refl refl) ended-went))
+        (tail-plain (pushes 0) _ _ (ended (failed noCallFrame)) (plain refl refl refl refl)))
     go (f ∷ fs) e = acts refl (ap (A.or_else noCallFrame) e) refl (goes _)
 
-ruleset obeying = (goes, ends, looks, gives, acts, said, plain, pushes-off, goes-off)
+ruleset obeying = (goes, ends, finishes, looks, gives, acts, said, plain, pushes-off, goes-off)
 
 constant : (c : Option Constant) → Always (pushes 1) (I.loadConstant c)
 constant none = search obeying

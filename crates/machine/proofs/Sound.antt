@@ -1,16 +1,16 @@
 -- The machine's counts and the tally agree, and every act keeps it so. Assumes nothing.
 use mathlib.Core.Path.{◌≡◌, refl, sym, ap, ap₂, ◌∙◌, subst}
-use mathlib.Core.Bool.{Bool, true, false, ◌&&◌, ◌||◌}
+use mathlib.Core.Bool.{Bool, true, false, ◌||◌}
 use mathlib.Core.Option.{Option, none, some}
 use mathlib.Core.List.{List, [], ◌∷◌, ◌++◌, map}
-use Prim.Native.Nat.{ℕ, zero, suc, ◌+◌, ◌-◌, ◌≤◌, ◌<◌, min, max}
+use Prim.Native.Nat.{ℕ, ◌+◌, ◌-◌, ◌≤◌, ◌<◌, min}
 use native.Mathlib.Omega.{arith}
-use lib.Dec.{leb, ltb, eqb, T, ltb→lt}
+use lib.Dec.{leb, ltb, ltb→lt}
 use lib.ListN.{length, take, drop, length-append, length-drop, length-map}
 use borrow.Author.Tests.{leb-true, le-leb}
-use Rattle.machine.specs.Basic.{same, filter, lowest, sum}
+use Rattle.machine.specs.Basic.{same, filter, lowest}
 use Rattle.std.specs.Prelude.{if◌then◌else◌}
-use Rattle.machine.specs.Value.{Value, Text}
+use Rattle.machine.specs.Value.{Value}
 use Rattle.machine.specs.State.{State, Bytes, bytes, Frame, Handler, Property, Name, console, kept, Global, array, Kind, bytes_of, nameBytes, isPair, isNamed, any, changeFirst, hasProperty, hasGlobal, nextText, fresh, topAt, end_of}
 use Rattle.machine.specs.State.{Store, codeStore, imageStore, frameStore, slotStore, handlerStore, functionStore, objectStore, propertyStore, globalStore, textStore, outputStore, used, operandLimit}
 use Rattle.machine.specs.Error.{JsVmError, stackOverflow, noCallFrame}
@@ -19,7 +19,7 @@ use Rattle.machine.specs.Act as A
 use Rattle.machine.specs.Act.{Act, apply, error, addText, addProperty, addProperties}
 use Rattle.machine.specs.Tally as T
 use Rattle.machine.specs.Tally.{Tally, Pair, count, useOf, nothing}
-use Rattle.machine.specs.Demand3.{All, Contiguous, savedBy, savedWithin}
+use Rattle.machine.specs.Demand3.{All, savedBy, savedWithin}
 use Rattle.machine.proofs.Texts.{Inside, Grows, grows, grows-text, slice-new, all_append, all_map}
 use Rattle.machine.proofs.Frames as F
 use Rattle.machine.proofs.Frames.{Frames}

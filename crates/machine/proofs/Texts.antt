@@ -1,20 +1,20 @@
 -- The code and text stores only grow: a text inside them keeps its bytes. Assumes nothing.
-use mathlib.Core.Path.{◌≡◌, refl, sym, ap, ◌∙◌}
+use mathlib.Core.Path.{◌≡◌, refl, ap, ◌∙◌}
 use mathlib.Core.Bool.{Bool, true, false}
-use mathlib.Core.List.{List, [], ◌∷◌, ◌++◌, map}
-use Prim.Native.Nat.{ℕ, zero, suc, ◌+◌, ◌-◌, ◌≤◌, ◌<◌, min}
+use mathlib.Core.List.{List, [], ◌∷◌, ◌++◌}
+use Prim.Native.Nat.{ℕ, ◌+◌, ◌-◌, ◌≤◌}
 use native.Mathlib.Omega.{arith}
 use lib.ListN.{length, take, drop, length-append, length-drop}
 use lib.Seq.{drop-append-add, take-append-le, drop-append-le, drop-append_seam, take-length}
 use Rattle.machine.specs.Value.{Value, Text, Home, in_code, inText}
-use Rattle.machine.specs.State.{State, Bytes, bytes, Frame, Handler, array, store_of, bytes_of, nextText, hasProperty, hasGlobal}
+use Rattle.machine.specs.State.{State, Bytes, bytes, Frame, Handler, array, store_of, bytes_of, hasProperty, hasGlobal}
 use Rattle.machine.specs.Fields as S
 use Rattle.machine.specs.Act as A
 use Rattle.machine.specs.Act.{Act, apply, Held, brings, addText, nextHeld, heldKeys, addProperties, heldNew, newName}
-use Rattle.machine.specs.Demand3.{All, HasBytes}
+use Rattle.machine.specs.Demand3.{All}
 use Rattle.machine.specs.Image.{Template, Constant, Read}
 use Rattle.machine.specs.Image as I
-use Rattle.machine.proofs.Images.{Within, ConstantIn, TemplateIn, Good, image}
+use Rattle.machine.proofs.Images.{ConstantIn, TemplateIn, Good, image}
 
 abbrev pub Inside : Bytes → Text → Type 0
 Inside m t = t.at + t.size ≤ length (store_of m t.store)

@@ -8,7 +8,6 @@ use native.Mathlib.Omega.{arith}
 use lib.ListN.{length, take, drop, length-append, length-drop, take-append-drop}
 use lib.Seq.{take-append_seam, drop-append_seam, drop-append-add, drop_at, length-take-le}
 use borrow.Author.Tests.{leb-true}
-use Rattle.machine.specs.State.{bytes}
 use Rattle.machine.specs.Act.{flat_map}
 use Rattle.machine.specs.Format.{Constant, Template, word, constant_bytes, templateBytes, encode}
 use Rattle.machine.specs.Writer as W

@@ -1,15 +1,15 @@
 -- What the machine can do to its state: an act. Each has the error of 000 that stops it, the space questions that it asks, in document 01's
 -- order, what it leaves, and the texts that it brings. Every instruction and every host call is made of acts (Program.antt).
 -- Assumes nothing.
-use Rattle.std.specs.Prelude.{Bool, true, false, not, ◌&&◌, ◌||◌, List, [], ◌∷◌, ◌++◌, ℕ, zero, suc, ◌+◌, ◌-◌, ◌*◌, ◌/◌, ◌%◌, ◌≤◌, ◌<◌, leb, ltb, eqb, length, take, drop as List·drop, set, replicate}
+use Rattle.std.specs.Prelude.{Bool, true, false, List, [], ◌∷◌, ◌++◌, ℕ, ◌+◌, ◌-◌, ◌/◌, ◌%◌, leb, ltb, length, take, drop as List·drop, set, replicate}
 use Rattle.std.proofs.Math.Option.{Option, none, some}
 use Rattle.machine.specs.Basic.{lowest, sum_of}
 use Rattle.std.specs.Prelude.{if◌then◌else◌}
-use Rattle.machine.specs.Value.{Text, Value, undefined, null, boolean, number, text, object, function}
+use Rattle.machine.specs.Value.{Text, Value, undefined, number, text}
 use Rattle.machine.specs.Image.{Template, Constant, Read, image}
 use Rattle.machine.specs.Number as N
-use Rattle.machine.specs.State.{State, Bytes, Frame, Handler, Function, Kind, ordinary, array, Property, Name, console, kept, Global}
-use Rattle.machine.specs.State.{bytes, nextText, isPair, isNamed, hasProperty, hasGlobal, changeFirst, setIp, topAt, end_of, operandLimit}
+use Rattle.machine.specs.State.{State, Bytes, Frame, Handler, Kind, ordinary, array, Property, kept, Global}
+use Rattle.machine.specs.State.{bytes, nextText, isPair, isNamed, hasProperty, hasGlobal, changeFirst, topAt, end_of, operandLimit}
 use Rattle.machine.specs.State.{Store, codeStore, imageStore, frameStore, slotStore, handlerStore, functionStore, objectStore, propertyStore, globalStore, textStore, outputStore}
 use Rattle.machine.specs.Convert.{lengthKey}
 use Rattle.machine.specs.Fields.{set_code, setImages, setOperands, setSlots, setFrames, setHandlers, setFunctions, setObjects, setProperties, setGlobals, setText, setOutput}

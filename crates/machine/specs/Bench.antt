@@ -12,7 +12,7 @@ use Rattle.machine.specs.Fields.{setOperands}
 use Rattle.machine.specs.Act.{apply, Act}
 use Rattle.machine.specs.Program.{exec, make, next, End, How, went}
 use Rattle.machine.specs.Instruction.{createArray, setProperty, instruction}
-use Rattle.machine.specs.Run.{Result, Ran, step, after, steps, stepped, goOn, stepLimit, endNumber, endValue}
+use Rattle.machine.specs.Run.{Result, Ran, step, after, steps, goOn, stepLimit, endNumber, endValue}
 use Rattle.machine.specs.Host.{Call, Answer, perform, leaves}
 use Rattle.machine.specs.Opcodes.{Row, row, row_of}
 

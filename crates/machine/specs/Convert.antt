@@ -1,11 +1,11 @@
 -- The methods of `JsValue` in document 000, and array keys: what a value is as a boolean, a number, a text, and when two are equal.
 -- Assumes nothing.
-use Rattle.std.specs.Prelude.{Bool, true, false, not, ◌&&◌, ◌||◌, List, [], ◌∷◌, ◌++◌, ℕ, zero, suc, ◌+◌, ◌-◌, ◌*◌, ◌^◌, ◌≤◌, ◌<◌, leb, ltb, eqb, length}
+use Rattle.std.specs.Prelude.{Bool, true, false, not, ◌&&◌, ◌||◌, List, [], ◌∷◌, ℕ, ◌+◌, ◌-◌, ◌*◌, ◌^◌, ltb, eqb, length}
 use Rattle.std.proofs.Math.Option.{Option, none, some}
 use Rattle.machine.specs.Basic.{same}
 use Rattle.std.specs.Prelude.{if◌then◌else◌}
 use Rattle.machine.specs.Ascii.{ascii}
-use Rattle.machine.specs.Value.{Text, Value, undefined, null, boolean, number, text, object, function}
+use Rattle.machine.specs.Value.{Value, undefined, null, boolean, number, text, object, function}
 use Rattle.machine.specs.State.{Bytes, bytes_of}
 use Rattle.machine.specs.Number as N
 

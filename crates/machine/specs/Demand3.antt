@@ -1,12 +1,12 @@
 -- Demand 3: one claim about every list of calls from a fresh engine. Assumes nothing.
-use Rattle.std.specs.Prelude.{◌≡◌, ◌↔◌, Bool, true, false, List, [], ◌∷◌, ◌++◌, map, ℕ, zero, suc, ◌+◌, ◌*◌, ◌≤◌, ◌<◌, min, leb, eqb, length, get_or}
+use Rattle.std.specs.Prelude.{◌≡◌, ◌↔◌, Bool, true, false, List, [], ◌∷◌, ◌++◌, map, ℕ, ◌+◌, ◌*◌, ◌≤◌, ◌<◌, min, leb, eqb, length, get_or}
 use Rattle.machine.specs.Basic.{filter, lowest, sum_of}
-use Rattle.machine.specs.Value.{Value, Text, Home, in_code, inText}
+use Rattle.machine.specs.Value.{Value, Home, in_code, inText}
 use Rattle.machine.specs.State.{State, Bytes, bytes, Frame, Handler, Store, fresh, running, bytes_of, end_of, limit, used, operandLimit, setIp, question}
 use Rattle.machine.specs.Act.{Given, Held, rest}
-use Rattle.machine.specs.Program.{Event, asked, did, How, went, ended, refused, Outcome}
+use Rattle.machine.specs.Program.{Event, asked, did, How, went, ended, refused}
 use Rattle.machine.specs.Run.{Kind, begun, runOut, noFrame, Step, Result, after}
-use Rattle.machine.specs.Host.{Call, Answer, Called, history, leaves}
+use Rattle.machine.specs.Host.{Call, Answer, Called, history}
 use Rattle.machine.specs.Tally.{Tally, Saved, nothing, useOf, tallyCode, tallyImages, tallyFunctions, tallyFrames, tallyOutput, addGiven, count, counted, unlessRefused}
 
 abbrev pub All : {A : Type 0} → (A → Type 0) → List A → Type 0

@@ -1,5 +1,5 @@
 -- Module 5 of document 01: the 49 instructions, as `run_loop` of 000 says, each under its name in 001. Assumes nothing.
-use Rattle.std.specs.Prelude.{Bool, true, false, not, ◌&&◌, ◌||◌, List, [], ◌∷◌, ◌++◌, reverse, ℕ, zero, suc, ◌+◌, ◌-◌, ◌*◌, ◌≤◌, ◌<◌, leb, ltb, eqb, length, take, get_or, replicate}
+use Rattle.std.specs.Prelude.{Bool, true, false, not, ◌||◌, List, [], ◌∷◌, ◌++◌, reverse, ℕ, zero, suc, ◌+◌, ◌-◌, ◌*◌, ltb, eqb, length, take, get_or, replicate}
 use Rattle.std.proofs.Math.Option.{Option, none, some}
 use Rattle.std.proofs.Math.ListN.{get_elem?}
 use Rattle.machine.specs.Basic.{same}
@@ -10,8 +10,8 @@ use Rattle.machine.specs.Image.{Template, Constant}
 use Rattle.machine.specs.State.{State, Bytes, bytes, Property, Frame, Handler, Function, Kind, ordinary, array, noTemplate, running, templateOf}
 use Rattle.machine.specs.State.{bytes_of, nextText, property, propertyIn, global}
 use Rattle.machine.specs.Convert.{lengthKey, toBoolean, toNumber, toJsString, jsTypeof, isText, strictEq, abstractEq, arrayKey, lengthFloor}
-use Rattle.machine.specs.Error.{JsVmError, unknownOpcode, ipOutOfBounds, uncaughtException, notCallable, invalidFunctionId, noCallFrame}
-use Rattle.machine.specs.Act.{Act, push, drop, dropMany, jump, pushFrame, popFrame, store, pushHandler, popHandler, unwind, addFunction, addObject, addArray, putProperty, putGlobal, keepText, print, plain}
+use Rattle.machine.specs.Error.{unknownOpcode, ipOutOfBounds, uncaughtException, notCallable, invalidFunctionId, noCallFrame}
+use Rattle.machine.specs.Act.{push, drop, dropMany, jump, pushFrame, popFrame, store, pushHandler, popHandler, unwind, addFunction, addObject, addArray, putProperty, putGlobal, keepText, print, plain}
 use Rattle.machine.specs.Program.{Program, next, end, look, make, finished, failed}
 
 -- The parts that instructions share

@@ -1,6 +1,6 @@
 -- The table of opcodes: change 6 of document 02. For each byte it has the operand bytes that follow, the least operands taken, and the operands pushed. A row is
 -- found by trying the instruction's rule (`row_of`), with no case for an opcode; `Listed` is what it says of every step. Assumes nothing.
-use Rattle.std.specs.Prelude.{◌≡◌, ◌↔◌, Bool, true, false, not, ◌||◌, List, [], ◌∷◌, ℕ, zero, suc, ◌+◌, ◌-◌, ◌<◌, eqb, length, replicate}
+use Rattle.std.specs.Prelude.{◌≡◌, ◌↔◌, Bool, false, not, ◌||◌, List, [], ◌∷◌, ℕ, zero, suc, ◌+◌, ◌-◌, ◌<◌, eqb, length, replicate}
 use Rattle.std.specs.Prelude.{if◌then◌else◌}
 use Rattle.machine.specs.Value.{object}
 use Rattle.machine.specs.State.{State}
@@ -111,13 +111,13 @@ isLeaving b = eqb b 74 || eqb b 51 || eqb b 255
 abbrev pub following : State → ℕ
 following s = (current s s.frames).size - (currentIp s.frames + 1)
 
--- A step from s that begins opcode b, whose row is r, and has the outcome o: when it gives 13, past 13 when 14, past 14 when 15, and the operands where it goes on.
--- A Dup of nothing is no exception: no operand stands before, and one afterwards.
+-- A step from s that begins opcode b, whose row is r, and has the outcome o: when it gives 13, past 13 when 14, past 14 when 15, and the operands where it gives no
+-- number. A Dup of nothing is no exception: no operand stands before, and one afterwards.
 pub record Listed (s : State) (b : ℕ) (r : Row) (o : Outcome) : Type 0 where
   pub known : (number o.how ≡ 13) ↔ (r.bytes ≡ 255)
   pub cut : (number o.how ≡ 13 → ⊥) → (number o.how ≡ 14) ↔ (following s < r.bytes)
   pub short : (number o.how ≡ 13 → ⊥) → (number o.how ≡ 14 → ⊥) → isCounting b ≡ false → (number o.how ≡ 15) ↔ (length s.operands < r.taken)
-  pub moves : isCounting b ≡ false → isLeaving b ≡ false → o.how ≡ went → length (after s o).operands + r.taken ≡ length s.operands + r.pushed
+  pub moves : isCounting b ≡ false → isLeaving b ≡ false → number o.how ≡ 0 → length (after s o).operands + r.taken ≡ length s.operands + r.pushed
 
 abbrev pub AsListed : Step → Type 0
 AsListed t = (b : ℕ) → t.kind ≡ begun b → Listed t.before b (rowFor b) t.outcome

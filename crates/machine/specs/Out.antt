@@ -1,19 +1,18 @@
 -- For the proofs of code, and no part of the machine: what is seen of a program from outside. It went on, with the state it left; it ended the
 -- run, with the state; or a store refused, which restores the state. One law for each way that an act can go. Assumes nothing.
-use Rattle.std.specs.Prelude.{◌≡◌, Bool, true, false, ℕ, ◌+◌, ◌≤◌, ◌<◌, ltb, leb, length}
+use Rattle.std.specs.Prelude.{◌≡◌, Bool, true, false, ℕ}
 use Rattle.std.proofs.Math.Path.{refl, ap}
-use Rattle.std.proofs.Common.{sym, ◌∙◌}
+use Rattle.std.proofs.Common.{◌∙◌}
 use Rattle.std.proofs.Math.Option.{Option, none, some}
 use mathlib.Core.List.{List, [], ◌∷◌}
-use Rattle.std.specs.Prelude.{if◌then◌else◌}
 use Rattle.machine.specs.Value.{Value}
-use Rattle.machine.specs.State.{State, Store, Frame, Handler, running}
+use Rattle.machine.specs.State.{State, Store}
 use Rattle.machine.specs.Error.{JsVmError, stackUnderflow}
 use Rattle.machine.specs.Fields as S
 use Rattle.machine.specs.Act as A
 use Rattle.machine.specs.Act.{Act, apply, error, Need, needs}
-use Rattle.machine.specs.Program.{Program, next, end, look, make, End, failed, How, Outcome, over, noting, did, fits, asking, answered, unlessError, exec}
-use Rattle.machine.specs.Instruction.{pop, pushed, top, fetch, fetchFrom, throw, finish}
+use Rattle.machine.specs.Program.{Program, next, end, look, make, End, failed, How, Outcome, noting, did, fits, asking, answered, unlessError, exec}
+use Rattle.machine.specs.Instruction.{pop, top, fetch, fetchFrom}
 
 pub data Out : Type 0 where
   went : State → Out

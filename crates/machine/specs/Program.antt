@@ -1,6 +1,6 @@
 -- Programs: how an instruction or a host call is put together from acts, and what comes of it.
 -- A program ends, looks at the state, or makes an act and goes on. Assumes nothing.
-use Rattle.std.specs.Prelude.{Bool, true, false, List, [], ◌∷◌, ◌++◌, ℕ, ◌+◌, leb}
+use Rattle.std.specs.Prelude.{Bool, true, false, List, [], ◌∷◌, ◌+◌, leb}
 use Rattle.std.proofs.Math.Option.{Option, none, some}
 use Rattle.machine.specs.Value.{Value}
 use Rattle.machine.specs.Error.{JsVmError}

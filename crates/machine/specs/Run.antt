@@ -1,12 +1,11 @@
 -- Steps and runs: module 5 of document 01. Assumes nothing.
-use Rattle.std.specs.Prelude.{Bool, true, false, not, ◌&&◌, ◌||◌, List, [], ◌∷◌, ◌++◌, ℕ, zero, suc, ◌+◌, ◌≤◌, ◌<◌, leb, ltb, eqb, length, get_or}
-use Rattle.std.proofs.Math.Option.{Option, none, some}
+use Rattle.std.specs.Prelude.{List, [], ◌∷◌, ℕ, zero, suc, ◌+◌, ltb, get_or}
 use Rattle.std.specs.Prelude.{if◌then◌else◌}
 use Rattle.machine.specs.Value.{Value, undefined}
 use Rattle.machine.specs.Error.{JsVmError, errorNumber, executionLimitExceeded, unknownOpcode, ipOutOfBounds, stackUnderflow, stackOverflow, uncaughtException, notCallable, invalidFunctionId, noCallFrame}
 use Rattle.machine.specs.State.{State, Frame, Store, running, question}
 use Rattle.machine.specs.Act.{popFrame}
-use Rattle.machine.specs.Program.{Program, next, end, look, make, End, finished, failed, How, went, refused, Outcome, exec}
+use Rattle.machine.specs.Program.{Program, next, look, make, End, finished, failed, How, went, refused, Outcome, exec}
 use Rattle.machine.specs.Instruction.{instruction, finish, fetch}
 
 -- A step

@@ -1,12 +1,11 @@
 -- The machine's state: its stores, their limits and questions, and what is looked up in them. Assumes nothing.
 -- A stack (operands, frames, handlers) has its newest element first; every other store has its oldest first.
-use Rattle.std.specs.Prelude.{Bool, true, false, not, ◌&&◌, ◌||◌, List, [], ◌∷◌, ◌++◌, ℕ, zero, suc, ◌+◌, ◌-◌, ◌*◌, ◌/◌, ◌%◌, ◌^◌, ◌≤◌, ◌<◌, min, max, leb, ltb, eqb, length, take, drop, get_or, replicate}
-use Rattle.std.proofs.Math.Option.{Option, none, some}
-use Rattle.machine.specs.Basic.{same, lowest}
+use Rattle.std.specs.Prelude.{Bool, false, ◌&&◌, ◌||◌, List, [], ◌∷◌, ℕ, ◌+◌, ◌-◌, ◌^◌, eqb, length, take, drop, get_or}
+use Rattle.machine.specs.Basic.{same}
 use Rattle.std.specs.Prelude.{if◌then◌else◌}
 use Rattle.machine.specs.Ascii.{ascii}
-use Rattle.machine.specs.Value.{Text, Home, in_code, inText, Value, undefined, null, boolean, number, text, object, function}
-use Rattle.machine.specs.Image.{Template, Constant}
+use Rattle.machine.specs.Value.{Text, Home, in_code, inText, Value, undefined, object}
+use Rattle.machine.specs.Image.{Template}
 
 -- `CallFrame`: a frame runs a template of an image, its next instruction at `ip`. Its slots are `count` of the slot store from `base` on.
 pub record Frame : Type 0 where

@@ -1,6 +1,6 @@
 -- The tally of use, by the rules of document 01 ("Use, from the calls since a clear"). It is fed each call with its arguments and, for a run,
 -- the acts of the machine's steps. It has no state of the machine's to look at, so no count of the machine's can reach it. Assumes nothing.
-use Rattle.std.specs.Prelude.{Bool, true, false, ◌&&◌, ◌||◌, List, [], ◌∷◌, ◌++◌, ℕ, ◌+◌, ◌-◌, min, max, leb, ltb, eqb, length}
+use Rattle.std.specs.Prelude.{Bool, true, false, ◌&&◌, List, [], ◌∷◌, ◌++◌, ℕ, ◌+◌, ◌-◌, min, max, leb, eqb, length}
 use Rattle.machine.specs.Basic.{same, filter, lowest, sum}
 use Rattle.machine.specs.Value.{Value}
 use Rattle.machine.specs.State.{Store, codeStore, imageStore, frameStore, slotStore, handlerStore, functionStore, objectStore, propertyStore, globalStore, textStore, outputStore, consoleName, any}

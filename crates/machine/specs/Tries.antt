@@ -1,5 +1,5 @@
 -- How an EnterTry comes out: change 1 of document 02. Assumes nothing.
-use Rattle.std.specs.Prelude.{◌≡◌, Bool, true, false, List, [], ◌∷◌, ℕ, ◌+◌, ltb, length}
+use Rattle.std.specs.Prelude.{◌≡◌, Bool, true, false, List, [], ◌∷◌, ◌+◌, ltb, length}
 use Rattle.machine.specs.Error.{ipOutOfBounds}
 use Rattle.machine.specs.State.{State, Frame, handlerStore, limit, running}
 use Rattle.machine.specs.Program.{failed, How, went, ended, refused}

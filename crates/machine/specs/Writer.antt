@@ -1,9 +1,8 @@
 -- Change 2 of document 02: the image writer. The host lends a buffer and keeps the writer between the calls. Assumes nothing.
-use Rattle.std.specs.Prelude.{Bool, true, false, ◌&&◌, List, [], ◌∷◌, ◌++◌, ℕ, zero, suc, ◌+◌, ◌-◌, ◌≤◌, ◌<◌, leb, ltb, eqb, length, take, drop}
+use Rattle.std.specs.Prelude.{Bool, true, false, ◌&&◌, List, [], ◌∷◌, ◌++◌, ℕ, ◌+◌, ◌-◌, leb, length, take, drop}
 use Rattle.std.proofs.Math.Option.{Option, none, some}
 use Rattle.machine.specs.Host.{ask}
 use Rattle.machine.specs.Format.{Constant, Template, word, constant_bytes}
-use Rattle.machine.specs.Format as F
 
 pub data Call : Type 0 where
   begin : Call

@@ -1,5 +1,5 @@
 -- Made by tests/oracle/make: do not edit. Each sample is a list of host calls and what the Rust of documents 000 to 002 came to on it.
-use Rattle.std.specs.Prelude.{◌≡◌, refl, Bool, true, false, List, [], ◌∷◌}
+use Rattle.std.specs.Prelude.{◌≡◌, refl, true, false, List, [], ◌∷◌}
 use Rattle.machine.specs.Value.{Value, Home}
 use Rattle.machine.specs.Act.{Given}
 use Rattle.machine.specs.Run.{stepLimit}
