@@ -35,10 +35,9 @@ pub fn opcode(b: u64) -> Row
         };
     }
     let k = 3 * (b as usize);
-    let numbers = OPCODES;
     Row {
-        bytes: wide(numbers[k]),
-        taken: wide(numbers[k + 1]),
-        pushed: wide(numbers[k + 2]),
+        bytes: wide(OPCODES[k]),
+        taken: wide(OPCODES[k + 1]),
+        pushed: wide(OPCODES[k + 2]),
     }
 }

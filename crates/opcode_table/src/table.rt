@@ -1,7 +1,7 @@
 //! The 768 numbers, three a byte: the operand bytes that follow, the least operands taken, the operands pushed. 255 for an unknown opcode; 254 as taken where the
 //! operand byte says how many.
 
-pub const OPCODES: [u8; 768] = [
+pub static OPCODES: [u8; 768] = [
     2, 0, 1, 2, 0, 1, 2, 1, 0, 2, 0, 1, 2, 1, 0, 2, 1, 1, 2, 2, 0, 0, 2, 1, 0, 3, 0, 255, 255, 255,
     0, 2, 1, 0, 2, 1, 0, 2, 1, 0, 2, 1, 0, 2, 1, 0, 1, 1, 255, 255, 255, 255, 255, 255, 255, 255,
     255, 255, 255, 255, 0, 1, 1, 0, 2, 1, 0, 2, 1, 0, 2, 1, 0, 2, 1, 0, 2, 1, 255, 255, 255, 255,
