@@ -100,7 +100,7 @@ Always x q = (s : State) → Obeys x q s
 
 -- How a program can end at once
 
--- A number other than 13, 14 and 15.
+-- It gives a number, and none of 13, 14 and 15.
 pub record Plain (n : ℕ) : Type 0 where
   pub not0 : n ≡ 0 → ⊥
   not13 : n ≡ 13 → ⊥

@@ -17,12 +17,6 @@ pub struct Row {
     pub pushed: u64,
 }
 
-fn wide(b: u8) -> u64
-    ensures { result ≡ b }
-{
-    b as u64
-}
-
 // The row of a byte. Any other number has that of an unknown opcode.
 pub fn opcode(b: u64) -> Row
     ensures { row_by result ≡ rowFor b }
@@ -36,8 +30,8 @@ pub fn opcode(b: u64) -> Row
     }
     let k = 3 * (b as usize);
     Row {
-        bytes: wide(OPCODES[k]),
-        taken: wide(OPCODES[k + 1]),
-        pushed: wide(OPCODES[k + 2]),
+        bytes: OPCODES[k] as u64,
+        taken: OPCODES[k + 1] as u64,
+        pushed: OPCODES[k + 2] as u64,
     }
 }
