@@ -61,7 +61,7 @@ fn hex(bytes: &[u8]) -> String {
 
 fn given(g: &Given) -> String {
     match g {
-        Given::Fresh(bs) => format!("(Given.asBytes {})", hex(bs)),
+        Given::Fresh(bs) => format!("(Given.as_bytes {})", hex(bs)),
         Given::Plain(p) => match p {
             Plain::Undefined => "(Given.plain Value.undefined)".into(),
             Plain::Null => "(Given.plain Value.null)".into(),
@@ -85,9 +85,9 @@ fn calls(sample: &Sample) -> Vec<String> {
             Action::Load => format!("Call.load {}", hex(&images.next().unwrap().bytes().0)),
             Action::Run(i) => format!("Call.run {}", i),
             Action::Register(i, t) => format!("Call.register {} {}", i, t),
-            Action::ReadGlobal(n) => format!("Call.readGlobal {}", hex(n)),
+            Action::ReadGlobal(n) => format!("Call.read_global {}", hex(n)),
             Action::Drain => format!("Call.drain {}", limits::OUTPUT_BYTES),
-            Action::SetGlobal(n, g) => format!("Call.setGlobal {} {}", hex(n), given(g)),
+            Action::SetGlobal(n, g) => format!("Call.set_global {} {}", hex(n), given(g)),
         })
         .collect()
 }

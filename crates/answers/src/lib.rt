@@ -3,12 +3,12 @@
 
 ghost use Rattle.std.specs.Prelude.{◌≡◌};
 ghost use Rattle.machine.specs.Host as Host;
-ghost use Rattle.value.specs.Errors.{errorOf};
+ghost use Rattle.value.specs.Errors.{error_of};
 ghost use Rattle.value.specs.Words.{value_of};
 ghost use Rattle.run.specs.Runs.{result_of};
-ghost use Rattle.host.specs.Calls.{answerOfNumbered, countsOfNumbered, answerOfChanged, countsOfChanged, answerOfRead, answerOfRun, countsOfRun};
-ghost use Rattle.answers.specs.Flat.{answer, told, toldValue, toldRun, flatText, flatDrain, errorOpcode, opcode_of, valueBy};
-ghost use Rattle.answers.specs.Written.{writeTold, toldWrite};
+ghost use Rattle.host.specs.Calls.{answer_of_numbered, counts_of_numbered, answer_of_changed, counts_of_changed, answer_of_read, answer_of_run, counts_of_run};
+ghost use Rattle.answers.specs.Flat.{answer, told, told_value, told_run, flat_text, flat_drain, error_opcode, opcode_of, value_by};
+ghost use Rattle.answers.specs.Written.{write_told, told_write};
 
 use heapops::Counts;
 use host::{Changed, Drained, GlobalRead, Numbered, RunAnswer, Wrote};
@@ -55,13 +55,13 @@ pub struct WriteTold {
 
 // A value that C gives, by its words.
 pub fn decoded(w: Words) -> Value
-    ensures { value_of result ≡ valueBy w }
+    ensures { value_of result ≡ value_by w }
 {
     value::decode(w.kind, w.first, w.second)
 }
 
 pub fn changed(counts: Counts, x: Changed) -> Answer
-    ensures { result ≡ told (answerOfChanged x) (countsOfChanged counts x) }
+    ensures { result ≡ told (answer_of_changed x) (counts_of_changed counts x) }
 {
     match x {
         Changed::Done(c) => accepted(0, c),
@@ -70,7 +70,7 @@ pub fn changed(counts: Counts, x: Changed) -> Answer
 }
 
 pub fn numbered(counts: Counts, x: Numbered) -> Answer
-    ensures { result ≡ told (answerOfNumbered x) (countsOfNumbered counts x) }
+    ensures { result ≡ told (answer_of_numbered x) (counts_of_numbered counts x) }
 {
     match x {
         Numbered::Done(i, c) => accepted(i, c),
@@ -79,7 +79,7 @@ pub fn numbered(counts: Counts, x: Numbered) -> Answer
 }
 
 pub fn wrote(counts: Counts, x: Wrote) -> Answer
-    ensures { result ≡ flatText counts x }
+    ensures { result ≡ flat_text counts x }
 {
     match x {
         Wrote::Bytes(n) => accepted(n, counts),
@@ -88,7 +88,7 @@ pub fn wrote(counts: Counts, x: Wrote) -> Answer
 }
 
 pub fn drained(counts: Counts, x: Drained) -> Answer
-    ensures { result ≡ flatDrain counts x }
+    ensures { result ≡ flat_drain counts x }
 {
     match x {
         Drained::Bytes(n, c) => accepted(n, c),
@@ -117,7 +117,7 @@ fn refused(n: u64, counts: Counts) -> Answer
 }
 
 pub fn valued(x: GlobalRead) -> ValueAnswer
-    ensures { result ≡ toldValue (answerOfRead x) }
+    ensures { result ≡ told_value (answer_of_read x) }
 {
     match x {
         GlobalRead::Valued(v) => ValueAnswer {
@@ -132,7 +132,7 @@ pub fn valued(x: GlobalRead) -> ValueAnswer
 }
 
 pub fn ran(counts: Counts, x: RunAnswer) -> RunTold
-    ensures { result ≡ toldRun (answerOfRun x) (countsOfRun counts x) }
+    ensures { result ≡ told_run (answer_of_run x) (counts_of_run counts x) }
 {
     match x {
         RunAnswer::Ran(r) => started(r),
@@ -148,7 +148,7 @@ pub fn ran(counts: Counts, x: RunAnswer) -> RunTold
 }
 
 fn started(x: Ran) -> RunTold
-    ensures { result ≡ toldRun (Host.ran (result_of x.end) x.steps) x.counts }
+    ensures { result ≡ told_run (Host.ran (result_of x.end) x.steps) x.counts }
 {
     let e = x.end;
     let counts = x.counts;
@@ -175,7 +175,7 @@ fn opcode_in(e: Ending) -> u64
 }
 
 fn opcode_of(e: JsVmError) -> u64
-    ensures { result ≡ errorOpcode (errorOf e) }
+    ensures { result ≡ error_opcode (error_of e) }
 {
     match e {
         JsVmError::UnknownOpcode(b) => b as u64,
@@ -191,7 +191,7 @@ fn opcode_of(e: JsVmError) -> u64
 }
 
 pub fn written(w: Writer, x: Written) -> WriteTold
-    ensures { result ≡ toldWrite w x }
+    ensures { result ≡ told_write w x }
 {
     match x {
         Written::Wrote(y) => write_told(0, y),
@@ -200,7 +200,7 @@ pub fn written(w: Writer, x: Written) -> WriteTold
 }
 
 fn write_told(number: u64, writer: Writer) -> WriteTold
-    ensures { result ≡ writeTold number writer }
+    ensures { result ≡ write_told number writer }
 {
     WriteTold { number, writer }
 }

@@ -10,19 +10,19 @@ use Rattle.machine.specs.State as St
 use Rattle.machine.specs.Act as A
 use Rattle.machine.specs.Fields as Fi
 use Rattle.machine.specs.Instruction as I
-use Rattle.machine.specs.Convert.{lengthKey, arrayKey, lengthFloor}
+use Rattle.machine.specs.Convert.{length_key, array_key, length_floor}
 use Rattle.machine.specs.Program.{Program, next, make}
-use Rattle.machine.specs.Out.{out, out-look}
+use Rattle.machine.specs.Out.{out, out_look}
 use Rattle.value.specs.Arena.{apart_below}
-use Rattle.value.specs.Lists.{bytes_of, row-length, row-ext, row-at}
-use Rattle.value.specs.Words.{value_of, value_at, setValue, value-apart}
+use Rattle.value.specs.Lists.{bytes_of, row_length, row_ext, row_at_lem}
+use Rattle.value.specs.Words.{value_of, value_at, set_value, value_apart}
 use Rattle.value.specs.declared.Value.{Value}
 use Rattle.value.specs.declared.Value.TheVariants.{Number}
 use Rattle.value.specs.declared.Space.TheVariants.{Properties, Text}
-use Rattle.number.specs.Signs.{whole-wrap}
-use Rattle.texts.specs.Keeps.{textLimit}
-use Rattle.texts.specs.Overwrite.{overwrite-below, overwrite-under}
-use Rattle.texts.specs.Sources.{sourceBytes, stores_of}
+use Rattle.number.specs.Signs.{whole_wrap}
+use Rattle.texts.specs.Keeps.{text_limit}
+use Rattle.texts.specs.Overwrite.{overwrite_below, overwrite_under}
+use Rattle.texts.specs.Sources.{source_bytes, stores_of}
 use Rattle.texts.specs.Spans.{Places}
 use Rattle.texts.specs.declared.Part.{Part}
 use Rattle.texts.specs.declared.Source.{Source}
@@ -30,12 +30,12 @@ use Rattle.texts.specs.declared.Source.TheVariants.{Code, Text as Text-as-Source
 use Rattle.convert.specs.Keys.{key_of}
 use Rattle.convert.specs.declared.Key.{Key}
 use Rattle.convert.specs.declared.Key.TheVariants.{Index, Name}
-use Rattle.heap.specs.Layout.{propertyLimit, propertiesAt, globalsAt}
-use Rattle.heap.specs.View.{Sized, onHeap, objectsOf, propertiesOf, kindIn, propertyOf, row_at, set_row}
-use Rattle.heap.specs.Rows.{Finds, finds-ext}
-use Rattle.heap.specs.Tables.{table_kept, setRow-apart}
-use Rattle.heap.specs.Finds.{pair_at, property-at, property-none}
-use Rattle.heap.specs.Laws.{withProperties, in-properties, apart-wider}
+use Rattle.heap.specs.Layout.{property_limit, properties_at, globals_at}
+use Rattle.heap.specs.View.{Sized, on_heap, objects_of, properties_of, kind_in, property_of, row_at, set_row}
+use Rattle.heap.specs.Rows.{Finds, finds_ext}
+use Rattle.heap.specs.Tables.{table_kept, set_row_apart}
+use Rattle.heap.specs.Finds.{pair_at, property_at, property_none}
+use Rattle.heap.specs.Laws.{with_properties, in_properties, apart_wider}
 use Rattle.heap.specs.declared.Sizes.{Sizes}
 use Rattle.heap.specs.declared.Found.{Found}
 use Rattle.heap.specs.declared.Found.TheVariants.{At, Nothing}
@@ -43,210 +43,210 @@ use Rattle.heap.specs.declared.ObjectType.{ObjectType}
 use Rattle.heap.specs.declared.ObjectType.TheVariants.{Ordinary, Array, NoObject}
 use Rattle.objects.specs.declared.Placed.{Placed}
 use Rattle.objects.specs.declared.Placed.TheVariants.{Went, Refused}
-use Rattle.objects.specs.View.{onStores, placedThen, PlacedReady, Puts, Lays}
-use Rattle.objects.specs.Puts.{property-there, property-full, property-long, property-new}
+use Rattle.objects.specs.View.{on_stores, placed_then, PlacedReady, Puts, Lays}
+use Rattle.objects.specs.Puts.{property_there, property_full, property_long, property_new}
 
 -- What an answer leaves: a refusal may alter words and bytes above those in use, and nothing else.
 abbrev pub Leaves : Sizes → List ℕ → ℕ → List ℕ → Placed → List ℕ → List ℕ → Type 0
-Leaves z w m t (Went y e) w' t' = Sized y w' × (e ≤ textLimit)
-Leaves z w m t (Refused q) w' t' = ((s : St.State) → onStores z w' m t' s ≡ onStores z w m t s) × Sized z w'
+Leaves z w m t (Went y e) w' t' = Sized y w' × (e ≤ text_limit)
+Leaves z w m t (Refused q) w' t' = ((s : St.State) → on_stores z w' m t' s ≡ on_stores z w m t s) × Sized z w'
 
 leaves : (z : Sizes) (w : List ℕ) (m : ℕ) (t : List ℕ) (x : Placed) (w' t' : List ℕ) → Sized z w → PlacedReady x w t w' t' → Leaves z w m t x w' t'
 leaves z w m t (Went y e) w' t' good r = r
 leaves z w m t (Refused q) w' t' good r =
-    (λ s. ap (λ (u : List ℕ). onStores z u m t' s) r.0 ∙ ap (λ (u : List ℕ). onStores z w m u s) r.1, subst (λ (u : List ℕ). Sized z u) (sym r.0) good)
+    (λ s. ap (λ (u : List ℕ). on_stores z u m t' s) r.0 ∙ ap (λ (u : List ℕ). on_stores z w m u s) r.1, subst (λ (u : List ℕ). Sized z u) (sym r.0) good)
 
 -- The contract of a program that ends in `next`: as that of an act.
 pub record Runs (f : St.State → Program) (z : Sizes) (w : List ℕ) (m : ℕ) (t : List ℕ) (r : Placed) (w' t' : List ℕ) : Type 0 where
-  pub goes : (s : St.State) → out (f (onStores z w m t s)) (onStores z w m t s) ≡ placedThen r next w' t' s
+  pub goes : (s : St.State) → out (f (on_stores z w m t s)) (on_stores z w m t s) ≡ placed_then r next w' t' s
   pub ready : Leaves z w m t r w' t'
 
 abbrev pub Sets : M.Value → List ℕ → M.Value → Sizes → List ℕ → ℕ → List ℕ → Placed → List ℕ → List ℕ → Type 0
-Sets o k v z w m t r w' t' = Runs (λ s. I.setProperty o k v) z w m t r w' t'
+Sets o k v z w m t r w' t' = Runs (λ s. I.set_property o k v) z w m t r w' t'
 
 -- into an array
 abbrev pub SetsIn : ℕ → List ℕ → M.Value → Sizes → List ℕ → ℕ → List ℕ → Placed → List ℕ → List ℕ → Type 0
-SetsIn o k v z w m t r w' t' = Runs (λ s. I.stretch s o (arrayKey k) (make (A.putProperty o k v) next)) z w m t r w' t'
+SetsIn o k v z w m t r w' t' = Runs (λ s. I.stretch s o (array_key k) (make (A.put_property o k v) next)) z w m t r w' t'
 
 -- at or above its length: first the length, then the key
 abbrev pub Stretches : ℕ → ℕ → List ℕ → M.Value → Sizes → List ℕ → ℕ → List ℕ → Placed → List ℕ → List ℕ → Type 0
-Stretches o i k v z w m t r w' t' = Runs (λ s. make (A.putProperty o lengthKey (M.number (N.whole (i + 1)))) (make (A.putProperty o k v) next)) z w m t r w' t'
+Stretches o i k v z w m t r w' t' = Runs (λ s. make (A.put_property o length_key (M.number (N.whole (i + 1)))) (make (A.put_property o k v) next)) z w m t r w' t'
 
 -- where nothing is done
-pub sets-nothing : (o : M.Value) (k : List ℕ) (v : M.Value) (z : Sizes) (w : List ℕ) (m : ℕ) (t : List ℕ) → I.setProperty o k v ≡ next → Sized z w → m ≤ textLimit → Sets o k v z w m t (Went z m) w t
-sets-nothing o k v z w m t e good h = record { goes = λ s. ap (λ (p : Program). out p (onStores z w m t s)) e; ready = (good, h) }
+pub sets_nothing : (o : M.Value) (k : List ℕ) (v : M.Value) (z : Sizes) (w : List ℕ) (m : ℕ) (t : List ℕ) → I.set_property o k v ≡ next → Sized z w → m ≤ text_limit → Sets o k v z w m t (Went z m) w t
+sets_nothing o k v z w m t e good h = record { goes = λ s. ap (λ (p : Program). out p (on_stores z w m t s)) e; ready = (good, h) }
 
-module _ (z : Sizes) (w : List ℕ) (m : ℕ) (t : List ℕ) (o : ℕ) (k : List ℕ) (v : M.Value) (r : ObjectType) (kind : kindIn r ≡ get_elem? (objectsOf w z.objects) o) where
-  as-kind : (s : St.State) (y : ObjectType) → r ≡ y → out (I.setProperty (M.object o) k v) (onStores z w m t s) ≡ out (I.setIn (onStores z w m t s) o (kindIn y) k v) (onStores z w m t s)
-  as-kind s y e =
-      out-look (onStores z w m t s) (λ s. I.setIn s o (get_elem? s.objects o) k v)
-      ∙ ap (λ (x : Option St.Kind). out (I.setIn (onStores z w m t s) o x k v) (onStores z w m t s)) (sym (ap kindIn (sym e) ∙ kind))
+module _ (z : Sizes) (w : List ℕ) (m : ℕ) (t : List ℕ) (o : ℕ) (k : List ℕ) (v : M.Value) (r : ObjectType) (kind : kind_in r ≡ get_elem? (objects_of w z.objects) o) where
+  as_kind : (s : St.State) (y : ObjectType) → r ≡ y → out (I.set_property (M.object o) k v) (on_stores z w m t s) ≡ out (I.set_in (on_stores z w m t s) o (kind_in y) k v) (on_stores z w m t s)
+  as_kind s y e =
+      out_look (on_stores z w m t s) (λ s. I.set_in s o (get_elem? s.objects o) k v)
+      ∙ ap (λ (x : Option St.Kind). out (I.set_in (on_stores z w m t s) o x k v) (on_stores z w m t s)) (sym (ap kind_in (sym e) ∙ kind))
 
-  pub sets-unknown : r ≡ NoObject → Sized z w → m ≤ textLimit → Sets (M.object o) k v z w m t (Went z m) w t
-  sets-unknown e good h = record { goes = λ s. as-kind s NoObject e; ready = (good, h) }
+  pub sets_unknown : r ≡ NoObject → Sized z w → m ≤ text_limit → Sets (M.object o) k v z w m t (Went z m) w t
+  sets_unknown e good h = record { goes = λ s. as_kind s NoObject e; ready = (good, h) }
 
-  pub sets-ordinary : (x : Placed) (w' t' : List ℕ) → r ≡ Ordinary → Sized z w → Puts (A.putProperty o k v) z w m t x w' t' → Sets (M.object o) k v z w m t x w' t'
-  sets-ordinary x w' t' e good p = record { goes = λ s. as-kind s Ordinary e ∙ p.goes s next; ready = leaves z w m t x w' t' good p.ready }
+  pub sets_ordinary : (x : Placed) (w' t' : List ℕ) → r ≡ Ordinary → Sized z w → Puts (A.put_property o k v) z w m t x w' t' → Sets (M.object o) k v z w m t x w' t'
+  sets_ordinary x w' t' e good p = record { goes = λ s. as_kind s Ordinary e ∙ p.goes s next; ready = leaves z w m t x w' t' good p.ready }
 
-  pub sets-array : (x : Placed) (w' t' : List ℕ) → r ≡ Array → SetsIn o k v z w m t x w' t' → Sets (M.object o) k v z w m t x w' t'
-  sets-array x w' t' e p = record { goes = λ s. as-kind s Array e ∙ p.goes s; ready = p.ready }
+  pub sets_array : (x : Placed) (w' t' : List ℕ) → r ≡ Array → SetsIn o k v z w m t x w' t' → Sets (M.object o) k v z w m t x w' t'
+  sets_array x w' t' e p = record { goes = λ s. as_kind s Array e ∙ p.goes s; ready = p.ready }
 
 -- Into an array
 abbrev stretched : Bool → ℕ → ℕ → Program → Program
-stretched b o i p = if b then p else make (A.putProperty o lengthKey (M.number (N.whole (i + 1)))) p
+stretched b o i p = if b then p else make (A.put_property o length_key (M.number (N.whole (i + 1)))) p
 
-module _ (z : Sizes) (w : List ℕ) (m : ℕ) (t : List ℕ) (o : ℕ) (k : List ℕ) (v : M.Value) (r : Key) (key : key_of r ≡ arrayKey k) where
+module _ (z : Sizes) (w : List ℕ) (m : ℕ) (t : List ℕ) (o : ℕ) (k : List ℕ) (v : M.Value) (r : Key) (key : key_of r ≡ array_key k) where
   abbrev puts : Program
-  puts = make (A.putProperty o k v) next
+  puts = make (A.put_property o k v) next
 
-  as-key : (s : St.State) (y : Key) → r ≡ y → out (I.stretch s o (arrayKey k) puts) s ≡ out (I.stretch s o (key_of y) puts) s
-  as-key s y e = ap (λ (x : Option ℕ). out (I.stretch s o x puts) s) (sym (ap key_of (sym e) ∙ key))
+  as_key : (s : St.State) (y : Key) → r ≡ y → out (I.stretch s o (array_key k) puts) s ≡ out (I.stretch s o (key_of y) puts) s
+  as_key s y e = ap (λ (x : Option ℕ). out (I.stretch s o x puts) s) (sym (ap key_of (sym e) ∙ key))
 
-  pub array-name : (x : Placed) (w' t' : List ℕ) → r ≡ Name → Sized z w → Puts (A.putProperty o k v) z w m t x w' t' → SetsIn o k v z w m t x w' t'
-  array-name x w' t' e good p = record { goes = λ s. as-key (onStores z w m t s) Name e ∙ p.goes s next; ready = leaves z w m t x w' t' good p.ready }
+  pub array_name : (x : Placed) (w' t' : List ℕ) → r ≡ Name → Sized z w → Puts (A.put_property o k v) z w m t x w' t' → SetsIn o k v z w m t x w' t'
+  array_name x w' t' e good p = record { goes = λ s. as_key (on_stores z w m t s) Name e ∙ p.goes s next; ready = leaves z w m t x w' t' good p.ready }
 
-  module _ (i : ℕ) (index : r ≡ Index i) (q : Found) (f : Finds (pair_at (bytes_of t m) w o lengthKey) z.properties q) where
+  module _ (i : ℕ) (index : r ≡ Index i) (q : Found) (f : Finds (pair_at (bytes_of t m) w o length_key) z.properties q) where
     -- an array that no act made may have none: its floor is 0
-    pub array-missing : (x : Placed) (w' t' : List ℕ) → q ≡ Nothing → Stretches o i k v z w m t x w' t' → SetsIn o k v z w m t x w' t'
-    array-missing x w' t' e p = record {
+    pub array_missing : (x : Placed) (w' t' : List ℕ) → q ≡ Nothing → Stretches o i k v z w m t x w' t' → SetsIn o k v z w m t x w' t'
+    array_missing x w' t' e p = record {
       goes = λ s.
-          let own : M.undefined ≡ St.property (onStores z w m t s) o lengthKey = property-none (bytes_of t m) w o lengthKey z.properties q f s.code e in
-          as-key (onStores z w m t s) (Index i) index
-          ∙ ap (λ (x : Bool). out (stretched x o i puts) (onStores z w m t s)) (ap (λ (x : M.Value). nat_lt i (lengthFloor x)) (sym own) ∙ le-ltb i 0 (omega arith))
+          let own : M.undefined ≡ St.property (on_stores z w m t s) o length_key = property_none (bytes_of t m) w o length_key z.properties q f s.code e in
+          as_key (on_stores z w m t s) (Index i) index
+          ∙ ap (λ (x : Bool). out (stretched x o i puts) (on_stores z w m t s)) (ap (λ (x : M.Value). nat_lt i (length_floor x)) (sym own) ∙ le-ltb i 0 (omega arith))
           ∙ p.goes s;
       ready = p.ready;
     }
 
-    module _ (j : ℕ) (at : q ≡ At j) (l : Value) (length-is : value_of l ≡ value_at w (propertiesAt + 6 * j + 3)) (floor : ℕ) (floor-is : floor ≡ lengthFloor (value_of l)) where
-      as-floor : (s : St.State) (b : Bool) → nat_lt i floor ≡ b → out (I.stretch (onStores z w m t s) o (arrayKey k) puts) (onStores z w m t s) ≡ out (stretched b o i puts) (onStores z w m t s)
-      as-floor s b e =
-          let own : value_of l ≡ St.property (onStores z w m t s) o lengthKey = property-at (bytes_of t m) w o lengthKey z.properties q f s.code j l at length-is in
-          as-key (onStores z w m t s) (Index i) index
-          ∙ ap (λ (x : Bool). out (stretched x o i puts) (onStores z w m t s)) (ap (λ (x : ℕ). ltb i x) (sym (floor-is ∙ ap lengthFloor own)) ∙ e)
+    module _ (j : ℕ) (at : q ≡ At j) (l : Value) (length_is : value_of l ≡ value_at w (properties_at + 6 * j + 3)) (floor : ℕ) (floor-is : floor ≡ length_floor (value_of l)) where
+      as_floor : (s : St.State) (b : Bool) → nat_lt i floor ≡ b → out (I.stretch (on_stores z w m t s) o (array_key k) puts) (on_stores z w m t s) ≡ out (stretched b o i puts) (on_stores z w m t s)
+      as_floor s b e =
+          let own : value_of l ≡ St.property (on_stores z w m t s) o length_key = property_at (bytes_of t m) w o length_key z.properties q f s.code j l at length_is in
+          as_key (on_stores z w m t s) (Index i) index
+          ∙ ap (λ (x : Bool). out (stretched x o i puts) (on_stores z w m t s)) (ap (λ (x : ℕ). ltb i x) (sym (floor-is ∙ ap length_floor own)) ∙ e)
 
-      pub array-below : (x : Placed) (w' t' : List ℕ) → i < floor → Sized z w → Puts (A.putProperty o k v) z w m t x w' t' → SetsIn o k v z w m t x w' t'
-      array-below x w' t' h good p = record { goes = λ s. as-floor s true (lt-ltb i floor h) ∙ p.goes s next; ready = leaves z w m t x w' t' good p.ready }
+      pub array_below : (x : Placed) (w' t' : List ℕ) → i < floor → Sized z w → Puts (A.put_property o k v) z w m t x w' t' → SetsIn o k v z w m t x w' t'
+      array_below x w' t' h good p = record { goes = λ s. as_floor s true (lt-ltb i floor h) ∙ p.goes s next; ready = leaves z w m t x w' t' good p.ready }
 
-      pub array-beyond : (x : Placed) (w' t' : List ℕ) → floor ≤ i → Stretches o i k v z w m t x w' t' → SetsIn o k v z w m t x w' t'
-      array-beyond x w' t' h p = record { goes = λ s. as-floor s false (le-ltb i floor h) ∙ p.goes s; ready = p.ready }
+      pub array_beyond : (x : Placed) (w' t' : List ℕ) → floor ≤ i → Stretches o i k v z w m t x w' t' → SetsIn o k v z w m t x w' t'
+      array_beyond x w' t' h p = record { goes = λ s. as_floor s false (le-ltb i floor h) ∙ p.goes s; ready = p.ready }
 
 -- a new value of a row leaves every row's owner and key
-pair-kept : (t w : List ℕ) (o : ℕ) (k : List ℕ) (j : ℕ) (v : Value) (i : ℕ) → pair_at t w o k i ≡ pair_at t (setValue w (propertiesAt + 6 * j + 3) v) o k i
+pair_kept : (t w : List ℕ) (o : ℕ) (k : List ℕ) (j : ℕ) (v : Value) (i : ℕ) → pair_at t w o k i ≡ pair_at t (set_value w (properties_at + 6 * j + 3) v) o k i
 unfolding row_at
-pair-kept t w o k j v i =
-    let a = value-apart w (propertiesAt + 6 * j + 3) v in
-    let b = propertiesAt + 6 * i in
-    sym (rw (a.at (propertiesAt + 6 * i) (λ x y. omega arith), a.at (propertiesAt + 6 * i + 1) (λ x y. omega arith), a.at (propertiesAt + 6 * i + 2) (λ x y. omega arith)))
+pair_kept t w o k j v i =
+    let a = value_apart w (properties_at + 6 * j + 3) v in
+    let b = properties_at + 6 * i in
+    sym (rw (a.at (properties_at + 6 * i) (λ x y. omega arith), a.at (properties_at + 6 * i + 1) (λ x y. omega arith), a.at (properties_at + 6 * i + 2) (λ x y. omega arith)))
 
 -- An array with its length: it is changed, then the key put. The questions are asked before the first write.
-module _ (z : Sizes) (w : List ℕ) (m : ℕ) (t : List ℕ) (good : Sized z w) (h : m ≤ textLimit) (long : length t ≡ textLimit) (o i : ℕ) (k : List ℕ) (v : Value)
-    (j : ℕ) (f : Finds (pair_at (bytes_of t m) w o lengthKey) z.properties (At j)) (bits : ℕ) (whole : bits ≡ N.whole (N.wrap (i + 1)))
+module _ (z : Sizes) (w : List ℕ) (m : ℕ) (t : List ℕ) (good : Sized z w) (h : m ≤ text_limit) (long : length t ≡ text_limit) (o i : ℕ) (k : List ℕ) (v : Value)
+    (j : ℕ) (f : Finds (pair_at (bytes_of t m) w o length_key) z.properties (At j)) (bits : ℕ) (whole : bits ≡ N.whole (N.wrap (i + 1)))
     (q : Found) (g : Finds (pair_at (bytes_of t m) w o k) z.properties q) where
   abbrev w₁ : List ℕ
-  w₁ = setValue w (propertiesAt + 6 * j + 3) (Number bits)
+  w₁ = set_value w (properties_at + 6 * j + 3) (Number bits)
 
-  first : Puts (A.putProperty o lengthKey (M.number bits)) z w m t (Went z m) w₁ t
-  first = property-there z w m t good h long o lengthKey (At j) f (Number bits) j w₁ refl refl
+  first : Puts (A.put_property o length_key (M.number bits)) z w m t (Went z m) w₁ t
+  first = property_there z w m t good h long o length_key (At j) f (Number bits) j w₁ refl refl
 
   sized : Sized z w₁
   sized = first.ready.0
 
   found : Finds (pair_at (bytes_of t m) w₁ o k) z.properties q
-  found = finds-ext (pair-kept (bytes_of t m) w o k j (Number bits)) g
+  found = finds_ext (pair_kept (bytes_of t m) w o k j (Number bits)) g
 
-  both : (x : Placed) (w' t' : List ℕ) → Puts (A.putProperty o k (value_of v)) z w₁ m t x w' t' → (s : St.State)
-      → out (make (A.putProperty o lengthKey (M.number (N.whole (i + 1)))) (make (A.putProperty o k (value_of v)) next)) (onStores z w m t s) ≡ placedThen x next w' t' s
+  both : (x : Placed) (w' t' : List ℕ) → Puts (A.put_property o k (value_of v)) z w₁ m t x w' t' → (s : St.State)
+      → out (make (A.put_property o length_key (M.number (N.whole (i + 1)))) (make (A.put_property o k (value_of v)) next)) (on_stores z w m t s) ≡ placed_then x next w' t' s
   both x w' t' p s =
-      ap (λ (u : ℕ). out (make (A.putProperty o lengthKey (M.number u)) (make (A.putProperty o k (value_of v)) next)) (onStores z w m t s)) (sym (whole ∙ whole-wrap (i + 1)))
-      ∙ first.goes s (make (A.putProperty o k (value_of v)) next) ∙ p.goes s next
+      ap (λ (u : ℕ). out (make (A.put_property o length_key (M.number u)) (make (A.put_property o k (value_of v)) next)) (on_stores z w m t s)) (sym (whole ∙ whole_wrap (i + 1)))
+      ∙ first.goes s (make (A.put_property o k (value_of v)) next) ∙ p.goes s next
 
-  pub stretched-there : (p : ℕ) (w₂ w' : List ℕ) → q ≡ At p → w₂ ≡ w₁ → w' ≡ setValue w₂ (propertiesAt + 6 * p + 3) v → Stretches o i k (value_of v) z w m t (Went z m) w' t
-  stretched-there p w₂ w' e c d =
-      let y = property-there z w₁ m t sized h long o k q found v p w' e (d ∙ ap (λ (x : List ℕ). setValue x (propertiesAt + 6 * p + 3) v) c) in
+  pub stretched_there : (p : ℕ) (w₂ w' : List ℕ) → q ≡ At p → w₂ ≡ w₁ → w' ≡ set_value w₂ (properties_at + 6 * p + 3) v → Stretches o i k (value_of v) z w m t (Went z m) w' t
+  stretched_there p w₂ w' e c d =
+      let y = property_there z w₁ m t sized h long o k q found v p w' e (d ∙ ap (λ (x : List ℕ). set_value x (properties_at + 6 * p + 3) v) c) in
       record { goes = both (Went z m) w' t y; ready = y.ready }
 
-  pub stretched-full : q ≡ Nothing → propertyLimit ≤ z.properties → Stretches o i k (value_of v) z w m t (Refused Properties) w t
-  stretched-full e l = record { goes = both (Refused Properties) w₁ t (property-full z w₁ m t sized h long o k q found v e l); ready = (λ s. refl, good) }
+  pub stretched_full : q ≡ Nothing → property_limit ≤ z.properties → Stretches o i k (value_of v) z w m t (Refused Properties) w t
+  stretched_full e l = record { goes = both (Refused Properties) w₁ t (property_full z w₁ m t sized h long o k q found v e l); ready = (λ s. refl, good) }
 
-  pub stretched-long : q ≡ Nothing → z.properties < propertyLimit → textLimit < m + length k → Stretches o i k (value_of v) z w m t (Refused Text) w t
-  stretched-long e l d = record { goes = both (Refused Text) w₁ t (property-long z w₁ m t sized h long o k q found v e l d); ready = (λ s. refl, good) }
+  pub stretched_long : q ≡ Nothing → z.properties < property_limit → text_limit < m + length k → Stretches o i k (value_of v) z w m t (Refused Text) w t
+  stretched_long e l d = record { goes = both (Refused Text) w₁ t (property_long z w₁ m t sized h long o k q found v e l d); ready = (λ s. refl, good) }
 
-  pub stretched-new : (e : ℕ) (w₂ w' t' : List ℕ) → q ≡ Nothing → z.properties < propertyLimit → m + length k ≤ textLimit → w₂ ≡ w₁
-      → Lays w₂ (propertiesAt + 6 * z.properties) o k v m t e w' t' → Stretches o i k (value_of v) z w m t (Went (withProperties (z.properties + 1) z) e) w' t'
-  stretched-new e w₂ w' t' n l d c lay =
-      let own : Lays w₁ (propertiesAt + 6 * z.properties) o k v m t e w' t' = subst (λ (x : List ℕ). Lays x (propertiesAt + 6 * z.properties) o k v m t e w' t') c lay in
-      let y = property-new z w₁ m t sized h long o k q found v n e w' t' l d own in
-      record { goes = both (Went (withProperties (z.properties + 1) z) e) w' t' y; ready = y.ready }
+  pub stretched_new : (e : ℕ) (w₂ w' t' : List ℕ) → q ≡ Nothing → z.properties < property_limit → m + length k ≤ text_limit → w₂ ≡ w₁
+      → Lays w₂ (properties_at + 6 * z.properties) o k v m t e w' t' → Stretches o i k (value_of v) z w m t (Went (with_properties (z.properties + 1) z) e) w' t'
+  stretched_new e w₂ w' t' n l d c lay =
+      let own : Lays w₁ (properties_at + 6 * z.properties) o k v m t e w' t' = subst (λ (x : List ℕ). Lays x (properties_at + 6 * z.properties) o k v m t e w' t') c lay in
+      let y = property_new z w₁ m t sized h long o k q found v n e w' t' l d own in
+      record { goes = both (Went (with_properties (z.properties + 1) z) e) w' t' y; ready = y.ready }
 
 -- A source that names the same bytes when text is added
 pub record Settles (m : ℕ) (key r : Source) : Type 0 where
-  pub bytes : (c t t₁ b : List ℕ) (n e : ℕ) → m ≤ e → ((j : ℕ) → j < m → slice_index t₁ j ≡ slice_index t j) → sourceBytes (stores_of c n t₁ e) b r ≡ sourceBytes (stores_of c n t m) b key
+  pub bytes : (c t t₁ b : List ℕ) (n e : ℕ) → m ≤ e → ((j : ℕ) → j < m → slice_index t₁ j ≡ slice_index t j) → source_bytes (stores_of c n t₁ e) b r ≡ source_bytes (stores_of c n t m) b key
 
-pub settles-text : (m : ℕ) (key : Source) (at size : ℕ) (p : Part) → key ≡ Text-as-Source at size → Places at size m p → Settles m key (Text-as-Source p.from (p.to - p.from))
-settles-text m key at size p q l = rw q (record {
+pub settles_text : (m : ℕ) (key : Source) (at size : ℕ) (p : Part) → key ≡ Text-as-Source at size → Places at size m p → Settles m key (Text-as-Source p.from (p.to - p.from))
+settles_text m key at size p q l = rw q (record {
   bytes = λ c t t₁ b n e h f.
-      let long : length (bytes_of t₁ e) ≡ e = row-length e (λ i. slice_index t₁ i) in
+      let long : length (bytes_of t₁ e) ≡ e = row_length e (λ i. slice_index t₁ i) in
       let low : bytes_of (bytes_of t₁ e) m ≡ bytes_of t m =
-      row-ext m (λ i. slice_index (bytes_of t₁ e) i) (λ i. slice_index t i) (λ i g. row-at e (λ j. slice_index t₁ j) i 0 (omega arith) ∙ f i g) in
+      row_ext m (λ i. slice_index (bytes_of t₁ e) i) (λ i. slice_index t i) (λ i g. row_at_lem e (λ j. slice_index t₁ j) i 0 (omega arith) ∙ f i g) in
       l.bytes (bytes_of t₁ e) (omega (arith, long)) ∙ ap (λ (x : List ℕ). take size (drop at x)) low;
 })
 
-pub settles-code : (m : ℕ) (key : Source) (at size : ℕ) → key ≡ Code at size → Settles m key (Code at size)
-settles-code m key at size q = rw q (record { bytes = λ c t t₁ b n e h f. refl })
+pub settles_code : (m : ℕ) (key : Source) (at size : ℕ) → key ≡ Code at size → Settles m key (Code at size)
+settles_code m key at size q = rw q (record { bytes = λ c t t₁ b n e h f. refl })
 
-pub settles-buffer : (m : ℕ) (key : Source) (size : ℕ) → key ≡ Buffer size → Settles m key (Buffer size)
-settles-buffer m key size q = rw q (record { bytes = λ c t t₁ b n e h f. refl })
+pub settles_buffer : (m : ℕ) (key : Source) (size : ℕ) → key ≡ Buffer size → Settles m key (Buffer size)
+settles_buffer m key size q = rw q (record { bytes = λ c t t₁ b n e h f. refl })
 
 -- An array without its length: it is added, and then the key put into what that gives.
-module _ (z : Sizes) (w : List ℕ) (m : ℕ) (t : List ℕ) (good : Sized z w) (h : m ≤ textLimit) (long : length t ≡ textLimit) (o i : ℕ) (k : List ℕ) (v : M.Value)
-    (q : Found) (f : Finds (pair_at (bytes_of t m) w o lengthKey) z.properties q) (none : q ≡ Nothing) (bits : ℕ) (whole : bits ≡ N.whole (N.wrap (i + 1))) where
-  after : (x : Placed) (w' t' : List ℕ) → Puts (A.putProperty o lengthKey (M.number bits)) z w m t x w' t' → (s : St.State)
-      → out (make (A.putProperty o lengthKey (M.number (N.whole (i + 1)))) (make (A.putProperty o k v) next)) (onStores z w m t s) ≡ placedThen x (make (A.putProperty o k v) next) w' t' s
+module _ (z : Sizes) (w : List ℕ) (m : ℕ) (t : List ℕ) (good : Sized z w) (h : m ≤ text_limit) (long : length t ≡ text_limit) (o i : ℕ) (k : List ℕ) (v : M.Value)
+    (q : Found) (f : Finds (pair_at (bytes_of t m) w o length_key) z.properties q) (none : q ≡ Nothing) (bits : ℕ) (whole : bits ≡ N.whole (N.wrap (i + 1))) where
+  after : (x : Placed) (w' t' : List ℕ) → Puts (A.put_property o length_key (M.number bits)) z w m t x w' t' → (s : St.State)
+      → out (make (A.put_property o length_key (M.number (N.whole (i + 1)))) (make (A.put_property o k v) next)) (on_stores z w m t s) ≡ placed_then x (make (A.put_property o k v) next) w' t' s
   after x w' t' p s =
-      ap (λ (u : ℕ). out (make (A.putProperty o lengthKey (M.number u)) (make (A.putProperty o k v) next)) (onStores z w m t s)) (sym (whole ∙ whole-wrap (i + 1)))
-      ∙ p.goes s (make (A.putProperty o k v) next)
+      ap (λ (u : ℕ). out (make (A.put_property o length_key (M.number u)) (make (A.put_property o k v) next)) (on_stores z w m t s)) (sym (whole ∙ whole_wrap (i + 1)))
+      ∙ p.goes s (make (A.put_property o k v) next)
 
-  pub missing-full : propertyLimit ≤ z.properties → Stretches o i k v z w m t (Refused Properties) w t
-  missing-full l = record { goes = after (Refused Properties) w t (property-full z w m t good h long o lengthKey q f (Number bits) none l); ready = (λ s. refl, good) }
+  pub missing_full : property_limit ≤ z.properties → Stretches o i k v z w m t (Refused Properties) w t
+  missing_full l = record { goes = after (Refused Properties) w t (property_full z w m t good h long o length_key q f (Number bits) none l); ready = (λ s. refl, good) }
 
-  pub missing-long : z.properties < propertyLimit → textLimit < m + 6 → Stretches o i k v z w m t (Refused Text) w t
-  missing-long l d = record { goes = after (Refused Text) w t (property-long z w m t good h long o lengthKey q f (Number bits) none l d); ready = (λ s. refl, good) }
+  pub missing_long : z.properties < property_limit → text_limit < m + 6 → Stretches o i k v z w m t (Refused Text) w t
+  missing_long l d = record { goes = after (Refused Text) w t (property_long z w m t good h long o length_key q f (Number bits) none l d); ready = (λ s. refl, good) }
 
-  module _ (e : ℕ) (w₁ t₁ : List ℕ) (l : z.properties < propertyLimit) (d : m + 6 ≤ textLimit) (lay : Lays w (propertiesAt + 6 * z.properties) o lengthKey (Number bits) m t e w₁ t₁) where
+  module _ (e : ℕ) (w₁ t₁ : List ℕ) (l : z.properties < property_limit) (d : m + 6 ≤ text_limit) (lay : Lays w (properties_at + 6 * z.properties) o length_key (Number bits) m t e w₁ t₁) where
     abbrev y : Sizes
-    y = withProperties (z.properties + 1) z
+    y = with_properties (z.properties + 1) z
 
-    added : Puts (A.putProperty o lengthKey (M.number bits)) z w m t (Went y e) w₁ t₁
-    added = property-new z w m t good h long o lengthKey q f (Number bits) none e w₁ t₁ l d lay
+    added : Puts (A.put_property o length_key (M.number bits)) z w m t (Went y e) w₁ t₁
+    added = property_new z w m t good h long o length_key q f (Number bits) none e w₁ t₁ l d lay
 
-    pub missing-ready : Sized y w₁ × (e ≤ textLimit)
-    missing-ready = added.ready
+    pub missing_ready : Sized y w₁ × (e ≤ text_limit)
+    missing_ready = added.ready
 
     -- what stands below the new row and the new text is as it was
-    below : (s : St.State) → onStores z w₁ m t₁ s ≡ onStores z w m t s
+    below : (s : St.State) → on_stores z w₁ m t₁ s ≡ on_stores z w m t s
     below s =
-        let x = set_row w (propertiesAt + 6 * z.properties) o m 6 (Number bits) in
-        let a = setRow-apart w (propertiesAt + 6 * z.properties) o m 6 (Number bits) in
-        let rows : propertiesOf x z.properties ≡ propertiesOf w z.properties = table_kept propertyOf propertiesAt w z.properties x (apart_below a propertiesAt (propertiesAt + 6 * z.properties) (omega arith)) in
-        let heap : onHeap z w₁ s ≡ onHeap z w s =
-        ap (λ (u : List ℕ). onHeap z u s) lay.row ∙ in-properties z w x good s z.properties (apart-wider propertiesAt globalsAt a (omega arith) (omega arith))
-        ∙ ap (λ (u : List St.Property). Fi.setProperties u (onHeap z w s)) rows in
-        let text : bytes_of t₁ m ≡ bytes_of t m = ap (λ (u : List ℕ). bytes_of u m) lay.text ∙ overwrite-under t m lengthKey (omega (arith, long)) m (omega arith) in
-        ap (λ (u : St.State). Fi.setText (bytes_of t₁ m) u) heap ∙ ap (λ (u : List ℕ). Fi.setText u (onHeap z w s)) text
+        let x = set_row w (properties_at + 6 * z.properties) o m 6 (Number bits) in
+        let a = set_row_apart w (properties_at + 6 * z.properties) o m 6 (Number bits) in
+        let rows : properties_of x z.properties ≡ properties_of w z.properties = table_kept property_of properties_at w z.properties x (apart_below a properties_at (properties_at + 6 * z.properties) (omega arith)) in
+        let heap : on_heap z w₁ s ≡ on_heap z w s =
+        ap (λ (u : List ℕ). on_heap z u s) lay.row ∙ in_properties z w x good s z.properties (apart_wider properties_at globals_at a (omega arith) (omega arith))
+        ∙ ap (λ (u : List St.Property). Fi.set_properties u (on_heap z w s)) rows in
+        let text : bytes_of t₁ m ≡ bytes_of t m = ap (λ (u : List ℕ). bytes_of u m) lay.text ∙ overwrite_under t m length_key (omega (arith, long)) m (omega arith) in
+        ap (λ (u : St.State). Fi.set_text (bytes_of t₁ m) u) heap ∙ ap (λ (u : List ℕ). Fi.set_text u (on_heap z w s)) text
 
-    pub missing-settled : (c b : List ℕ) (n : ℕ) (key own : Source) → Settles m key own → k ≡ sourceBytes (stores_of c n t m) b key → sourceBytes (stores_of c n t₁ e) b own ≡ k
-    missing-settled c b n key own g p =
-        g.bytes c t t₁ b n e (omega (arith, lay.count)) (λ j r. ap (λ (u : List ℕ). slice_index u j) lay.text ∙ overwrite-below t m lengthKey (omega (arith, long)) j r) ∙ sym p
+    pub missing_settled : (c b : List ℕ) (n : ℕ) (key own : Source) → Settles m key own → k ≡ source_bytes (stores_of c n t m) b key → source_bytes (stores_of c n t₁ e) b own ≡ k
+    missing_settled c b n key own g p =
+        g.bytes c t t₁ b n e (omega (arith, lay.count)) (λ j r. ap (λ (u : List ℕ). slice_index u j) lay.text ∙ overwrite_below t m length_key (omega (arith, long)) j r) ∙ sym p
 
-    pub missing-put : (x : Placed) (w₂ t₂ : List ℕ) (k' : List ℕ) → k' ≡ k → Puts (A.putProperty o k' v) y w₁ e t₁ x w₂ t₂ → Stretches o i k v z w m t x w₂ t₂
-    missing-put x w₂ t₂ k' same p = record {
-      goes = λ s. after (Went y e) w₁ t₁ added s ∙ ap (λ (u : List ℕ). out (make (A.putProperty o u v) next) (onStores y w₁ e t₁ s)) (sym same) ∙ p.goes s next;
+    pub missing_put : (x : Placed) (w₂ t₂ : List ℕ) (k' : List ℕ) → k' ≡ k → Puts (A.put_property o k' v) y w₁ e t₁ x w₂ t₂ → Stretches o i k v z w m t x w₂ t₂
+    missing_put x w₂ t₂ k' same p = record {
+      goes = λ s. after (Went y e) w₁ t₁ added s ∙ ap (λ (u : List ℕ). out (make (A.put_property o u v) next) (on_stores y w₁ e t₁ s)) (sym same) ∙ p.goes s next;
       ready = left x p.ready;
     }
       where
         left : (x : Placed) → PlacedReady x w₁ t₁ w₂ t₂ → Leaves z w m t x w₂ t₂
         left (Went a b) r = r
         left (Refused u) r = (
-          λ s. ap (λ (g : List ℕ). onStores z g m t₂ s) r.0 ∙ ap (λ (g : List ℕ). onStores z w₁ m g s) r.1 ∙ below s,
+          λ s. ap (λ (g : List ℕ). on_stores z g m t₂ s) r.0 ∙ ap (λ (g : List ℕ). on_stores z w₁ m g s) r.1 ∙ below s,
           record { functions = good.functions; objects = good.objects; properties = good.properties; globals = good.globals; size = ap length r.0 ∙ added.ready.0.size },
         )

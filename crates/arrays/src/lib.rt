@@ -2,29 +2,29 @@
 #![tactic(auto)]
 
 ghost use Rattle.std.specs.Prelude.{◌≡◌, ◌+◌, ◌*◌, ◌<◌, ◌≤◌, length};
-ghost use Rattle.machine.specs.Act.{addArray};
-ghost use Rattle.machine.specs.Convert.{arrayKey, lengthKey};
+ghost use Rattle.machine.specs.Act.{add_array};
+ghost use Rattle.machine.specs.Convert.{array_key, length_key};
 ghost use Rattle.machine.specs.Value.{object};
 ghost use Rattle.value.specs.Lists.{bytes_of};
 ghost use Rattle.convert.specs.Keys.{key_of};
-ghost use Rattle.texts.specs.Sources.{stores_of, sourceBytes};
+ghost use Rattle.texts.specs.Sources.{stores_of, source_bytes};
 ghost use Rattle.heap.specs.Rows.{Finds};
 ghost use Rattle.heap.specs.Finds.{pair_at};
 ghost use Rattle.heap.specs.declared.Found.TheVariants.{At, Nothing};
 ghost use Rattle.arrays.specs.Sets.{Sets, SetsIn, Stretches, Settles};
 ghost use Rattle.machine.specs.Instruction.{exactly};
 ghost use Rattle.machine.specs.Number.{decimal};
-ghost use Rattle.machine.specs.State.{operandLimit};
-ghost use Rattle.machine.specs.NumberText.{longestText};
+ghost use Rattle.machine.specs.State.{operand_limit};
+ghost use Rattle.machine.specs.NumberText.{longest_text};
 ghost use Rattle.value.specs.Words.{value_of, value_at};
 ghost use Rattle.stacks.specs.Layout.{stack_words};
 ghost use Rattle.stacks.specs.View.{arguments};
-ghost use Rattle.texts.specs.Keeps.{textLimit};
+ghost use Rattle.texts.specs.Keeps.{text_limit};
 ghost use Rattle.texts.specs.Spells.{Spells};
-ghost use Rattle.heap.specs.Layout.{propertyLimit};
+ghost use Rattle.heap.specs.Layout.{property_limit};
 ghost use Rattle.heap.specs.View.{Sized};
 ghost use Rattle.objects.specs.View.{Puts, Lays};
-ghost use Rattle.arrays.specs.Keys.{keysSize};
+ghost use Rattle.arrays.specs.Keys.{keys_size};
 ghost use Rattle.arrays.specs.Arrays.{given, Laying};
 
 use convert::Key;
@@ -54,8 +54,8 @@ fn key_size(i: usize) -> usize
 
 // The bytes of an array's keys, `length` among them.
 fn keys_size(count: usize) -> usize
-    requires { count ≤ propertyLimit }
-    ensures { result ≡ keysSize 0 count }
+    requires { count ≤ property_limit }
+    ensures { result ≡ keys_size 0 count }
 {
     let mut i: usize = 0;
     let mut sum: usize = 0;
@@ -67,7 +67,7 @@ fn keys_size(count: usize) -> usize
 }
 
 pub fn element_key(i: usize, buffer: &mut [u8; LONGEST_TEXT]) -> Source
-    requires { (i < 65536) × (length buffer.old ≡ longestText) }
+    requires { (i < 65536) × (length buffer.old ≡ longest_text) }
     ensures { Spells (λ m. decimal i) result buffer.new }
 {
     let number = JsNumber::js_int(i as u64);
@@ -76,7 +76,7 @@ pub fn element_key(i: usize, buffer: &mut [u8; LONGEST_TEXT]) -> Source
 
 // An array's element: the operands from number `from` on, and Undefined beyond the `argc` that stand.
 fn element(stacks: &[u64], from: usize, argc: usize, i: usize) -> Value
-    requires { (from + argc ≤ operandLimit) × (length stacks.now ≡ stack_words) }
+    requires { (from + argc ≤ operand_limit) × (length stacks.now ≡ stack_words) }
     ensures { value_of result ≡ given argc (λ j. value_at stacks.now (3 * (from + j))) i }
 {
     if i < argc {
@@ -96,7 +96,7 @@ fn lay_element(
     v: Value,
 ) -> usize
     requires k_in_bounds { (k + 5 < length heap.old) × (i < 65536) }
-    requires text_len { (length text.old ≡ textLimit) × (e + length (decimal i) ≤ textLimit) }
+    requires text_len { (length text.old ≡ text_limit) × (e + length (decimal i) ≤ text_limit) }
     ensures { Lays heap.old k id (decimal i) v e text.old result heap.new text.new }
 {
     let l = JsNumber::js_int(i as u64).layout();
@@ -118,8 +118,8 @@ fn lay_elements(
     id: u64,
 ) -> usize
     requires sized { Sized z heap.old }
-    requires text_len { (length text.old ≡ textLimit) × (m + keysSize 0 count ≤ textLimit) × (z.properties + count < propertyLimit) }
-    requires argc_bound { (from + argc ≤ operandLimit) × (length stacks.now ≡ stack_words) }
+    requires text_len { (length text.old ≡ text_limit) × (m + keys_size 0 count ≤ text_limit) × (z.properties + count < property_limit) }
+    requires argc_bound { (from + argc ≤ operand_limit) × (length stacks.now ≡ stack_words) }
     ensures { Laying id (given argc (λ j. value_at stacks.now (3 * (from + j)))) count z heap.old m text.old count result heap.new text.new }
 {
     let mut i: usize = 0;
@@ -145,9 +145,9 @@ pub fn add_array(
     count: usize,
 ) -> Placed
     requires sized { Sized z heap.old }
-    requires m_le_text_limit { (m ≤ textLimit) × (length text.old ≡ textLimit) }
-    requires argc_bound { (from + argc ≤ operandLimit) × (length stacks.now ≡ stack_words) }
-    ensures { Puts (addArray (exactly count (arguments stacks.now from argc))) z heap.old m text.old result heap.new text.new }
+    requires m_le_text_limit { (m ≤ text_limit) × (length text.old ≡ text_limit) }
+    requires argc_bound { (from + argc ≤ operand_limit) × (length stacks.now ≡ stack_words) }
+    ensures { Puts (add_array (exactly count (arguments stacks.now from argc))) z heap.old m text.old result heap.new text.new }
 {
     if OBJECT_LIMIT <= z.objects {
         return Placed::Refused(Space::Objects);
@@ -184,7 +184,7 @@ pub fn add_array(
 // Is a key the number of an element? (By the place of the key, as in `find_key`.)
 fn key_index(code: &[u8], n: usize, text: &[u8], m: usize, buffer: &[u8], key: Source) -> Key
     requires { (n ≤ length code.now) × (m ≤ length text.now) }
-    ensures { key_of result ≡ arrayKey (sourceBytes (stores_of code.now n text.now m) buffer.now key) }
+    ensures { key_of result ≡ array_key (source_bytes (stores_of code.now n text.now m) buffer.now key) }
 {
     match key {
         Source::Code(at, size) => {
@@ -225,9 +225,9 @@ fn stretch(
     i: u64,
 ) -> Placed
     requires sized { Sized z heap.old }
-    requires n_in_bounds { (n ≤ length code.now) × (m ≤ textLimit) × (length text.old ≡ textLimit) }
-    requires finds { Finds (pair_at (bytes_of text.old m) heap.old id lengthKey) z.properties (At j) }
-    ensures { Stretches id i (sourceBytes (stores_of code.now n text.old m) buffer.now key) (value_of v) z heap.old m text.old result heap.new text.new }
+    requires n_in_bounds { (n ≤ length code.now) × (m ≤ text_limit) × (length text.old ≡ text_limit) }
+    requires finds { Finds (pair_at (bytes_of text.old m) heap.old id length_key) z.properties (At j) }
+    ensures { Stretches id i (source_bytes (stores_of code.now n text.old m) buffer.now key) (value_of v) z heap.old m text.old result heap.new text.new }
 {
     let count = z.properties;
     let length = JsNumber::js_int(std::num::wrapping_add_u64(i, 1));
@@ -282,9 +282,9 @@ fn stretch_bare(
     i: u64,
 ) -> Placed
     requires sized { Sized z heap.old }
-    requires n_in_bounds { (n ≤ length code.now) × (m ≤ textLimit) × (length text.old ≡ textLimit) }
-    requires finds { Finds (pair_at (bytes_of text.old m) heap.old id lengthKey) z.properties Nothing }
-    ensures { Stretches id i (sourceBytes (stores_of code.now n text.old m) buffer.now key) (value_of v) z heap.old m text.old result heap.new text.new }
+    requires n_in_bounds { (n ≤ length code.now) × (m ≤ text_limit) × (length text.old ≡ text_limit) }
+    requires finds { Finds (pair_at (bytes_of text.old m) heap.old id length_key) z.properties Nothing }
+    ensures { Stretches id i (source_bytes (stores_of code.now n text.old m) buffer.now key) (value_of v) z heap.old m text.old result heap.new text.new }
 {
     let count = z.properties;
     if PROPERTY_LIMIT <= count {
@@ -328,8 +328,8 @@ fn set_element(
     v: Value,
 ) -> Placed
     requires sized { Sized z heap.old }
-    requires n_in_bounds { (n ≤ length code.now) × (m ≤ textLimit) × (length text.old ≡ textLimit) }
-    ensures { SetsIn id (sourceBytes (stores_of code.now n text.old m) buffer.now key) (value_of v) z heap.old m text.old result heap.new text.new }
+    requires n_in_bounds { (n ≤ length code.now) × (m ≤ text_limit) × (length text.old ≡ text_limit) }
+    ensures { SetsIn id (source_bytes (stores_of code.now n text.old m) buffer.now key) (value_of v) z heap.old m text.old result heap.new text.new }
 {
     let Key::Index(i) = key_index(code, n, text, m, buffer, key) else {
         return objects::put_property(z, heap, code, n, text, m, buffer, id, key, v);
@@ -359,8 +359,8 @@ fn set_object(
     v: Value,
 ) -> Placed
     requires sized { Sized z heap.old }
-    requires n_in_bounds { (n ≤ length code.now) × (m ≤ textLimit) × (length text.old ≡ textLimit) }
-    ensures { Sets (object id) (sourceBytes (stores_of code.now n text.old m) buffer.now key) (value_of v) z heap.old m text.old result heap.new text.new }
+    requires n_in_bounds { (n ≤ length code.now) × (m ≤ text_limit) × (length text.old ≡ text_limit) }
+    ensures { Sets (object id) (source_bytes (stores_of code.now n text.old m) buffer.now key) (value_of v) z heap.old m text.old result heap.new text.new }
 {
     match heap::object_type(z, heap, id) {
         ObjectType::NoObject => Placed::Went(z, m),
@@ -385,8 +385,8 @@ pub fn set_property(
     v: Value,
 ) -> Placed
     requires sized { Sized z heap.old }
-    requires n_in_bounds { (n ≤ length code.now) × (m ≤ textLimit) × (length text.old ≡ textLimit) }
-    ensures { Sets (value_of target) (sourceBytes (stores_of code.now n text.old m) buffer.now key) (value_of v) z heap.old m text.old result heap.new text.new }
+    requires n_in_bounds { (n ≤ length code.now) × (m ≤ text_limit) × (length text.old ≡ text_limit) }
+    ensures { Sets (value_of target) (source_bytes (stores_of code.now n text.old m) buffer.now key) (value_of v) z heap.old m text.old result heap.new text.new }
 {
     match target {
         Value::Undefined => Placed::Went(z, m),

@@ -6,26 +6,26 @@ use Rattle.std.specs.Prelude.{if◌then◌else◌}
 use Rattle.machine.specs.State as St
 use Rattle.machine.specs.Act.{Given}
 use Rattle.machine.specs.Fields as Fi
-use Rattle.machine.specs.Out.{out-next}
+use Rattle.machine.specs.Out.{out_next}
 use Rattle.machine.specs.Host as H
 use Rattle.number.specs.declared.format.Formatted.{Formatted}
 use Rattle.number.specs.declared.format.Formatted.TheVariants.{Bytes, TooShort}
-use Rattle.value.specs.Lists.{bytes_of, row-none}
+use Rattle.value.specs.Lists.{bytes_of, row_none}
 use Rattle.texts.specs.Overwrite.{overwrite}
 use Rattle.texts.specs.Spans.{bytes_take}
 use Rattle.texts.specs.Spells.{Writes}
 use Rattle.heapops.specs.declared.Counts.{Counts}
 use Rattle.heapops.specs.Turns.{Mem}
 use Rattle.finish.specs.Parts.{Tables}
-use Rattle.run.specs.Runs.{stateIn}
+use Rattle.run.specs.Runs.{state_in}
 use Rattle.host.specs.Calls.{lent, Called, Buffered}
-use Rattle.host.specs.Lent.{Lent, lent-lengths, lent-within, lent_by}
-use Rattle.host.specs.Performs.{comes-went, called-no, called-done}
+use Rattle.host.specs.Lent.{Lent, lent_lengths, lent_within, lent_by}
+use Rattle.host.specs.Performs.{comes_went, called_no, called_done}
 
 -- What was written, by the answer
-abbrev sizeIn : Formatted → ℕ
-sizeIn (Bytes n) = n
-sizeIn TooShort = 0
+abbrev size_in : Formatted → ℕ
+size_in (Bytes n) = n
+size_in TooShort = 0
 
 abbrev Fits : Formatted → Type 0
 Fits (Bytes n) = Unit {0}
@@ -36,38 +36,38 @@ pub record Fitted (t b : List ℕ) (k : ℕ) (b' : List ℕ) : Type 0 where
   pub size : k ≡ length t
   pub bytes : b' ≡ t ++ drop (length t) b
 
-fitted-by : (q : Bool) (t b b' : List ℕ) (r : Formatted) (k : ℕ) → leb (length t) (length b) ≡ q
+fitted_by : (q : Bool) (t b b' : List ℕ) (r : Formatted) (k : ℕ) → leb (length t) (length b) ≡ q
     → r ≡ (if q then Bytes (length t) else TooShort) → b' ≡ (if q then t ++ drop (length t) b else b) → r ≡ Bytes k → Fitted t b k b'
-fitted-by true t b b' r k h a f e = record { room = h; size = ap sizeIn (sym e ∙ a); bytes = f }
-fitted-by false t b b' r k h a f e = absurd (subst Fits (sym e ∙ a) tt)
+fitted_by true t b b' r k h a f e = record { room = h; size = ap size_in (sym e ∙ a); bytes = f }
+fitted_by false t b b' r k h a f e = absurd (subst Fits (sym e ∙ a) tt)
 
 pub fitted : {t b b' : List ℕ} {r : Formatted} {k : ℕ} → Writes t b r b' → r ≡ Bytes k → Fitted t b k b'
-fitted {t} {b} {b'} {r} {k} f e = fitted-by (leb (length t) (length b)) t b b' r k refl f.answer f.buffer e
+fitted {t} {b} {b'} {r} {k} f e = fitted_by (leb (length t) (length b)) t b b' r k refl f.answer f.buffer e
 
 pub record Short (t b b' : List ℕ) : Type 0 where
   pub room : leb (length t) (length b) ≡ false
   pub bytes : b' ≡ b
 
-short-by : (q : Bool) (t b b' : List ℕ) (r : Formatted) → leb (length t) (length b) ≡ q
+short_by : (q : Bool) (t b b' : List ℕ) (r : Formatted) → leb (length t) (length b) ≡ q
     → r ≡ (if q then Bytes (length t) else TooShort) → b' ≡ (if q then t ++ drop (length t) b else b) → r ≡ TooShort → Short t b b'
-short-by true t b b' r h a f e = absurd (subst Fits (sym a ∙ e) tt)
-short-by false t b b' r h a f e = record { room = h; bytes = f }
+short_by true t b b' r h a f e = absurd (subst Fits (sym a ∙ e) tt)
+short_by false t b b' r h a f e = record { room = h; bytes = f }
 
 pub short : {t b b' : List ℕ} {r : Formatted} → Writes t b r b' → r ≡ TooShort → Short t b b'
-short {t} {b} {b'} {r} f e = short-by (leb (length t) (length b)) t b b' r refl f.answer f.buffer e
+short {t} {b} {b'} {r} f e = short_by (leb (length t) (length b)) t b b' r refl f.answer f.buffer e
 
-pub fitted-start : {t b b' : List ℕ} {k : ℕ} → Fitted t b k b' → bytes_of b' k ≡ t
-fitted-start {t} {b} {b'} {k} f =
+pub fitted_start : {t b b' : List ℕ} {k : ℕ} → Fitted t b k b' → bytes_of b' k ≡ t
+fitted_start {t} {b} {b'} {k} f =
     let n : length b' ≡ length t + length (drop (length t) b) = ap length f.bytes ∙ length-append t (drop (length t) b) in
     let z = f.size in
     bytes_take b' k (omega (arith, n, z)) ∙ ap (take k) f.bytes ∙ take_at t (drop (length t) b) k (sym f.size)
 
-pub fitted-buffer : {t b b' : List ℕ} {k : ℕ} → Fitted t b k b' → Buffered (H.wrote (bytes_of b' k)) b b'
+pub fitted_buffer : {t b b' : List ℕ} {k : ℕ} → Fitted t b k b' → Buffered (H.wrote (bytes_of b' k)) b b'
 unfolding overwrite
-fitted-buffer {t} {b} {b'} {k} f =
+fitted_buffer {t} {b} {b'} {k} f =
     let z : 0 + length t ≡ length t = omega arith in
     let e : b' ≡ overwrite b 0 t = f.bytes ∙ rw z refl in
-    record { bytes = e ∙ ap (overwrite b 0) (sym (fitted-start f)) }
+    record { bytes = e ∙ ap (overwrite b 0) (sym (fitted_start f)) }
 
 -- Drain: the bytes in use, and then none
 abbrev pub emptied : Counts → Counts
@@ -78,17 +78,17 @@ abbrev asks : Bool → Bool → Bool → Option ℕ
 asks x y z = H.ask 29 x (H.ask 30 y (H.ask 31 z none))
 
 module _ {c : Counts} {g : Tables} {m : Mem} (e : Lent c g m) where
-  output-within : c.output ≤ length m.output
-  output-within = omega (arith, (lent-within e).output, (lent-lengths e).output)
+  output_within : c.output ≤ length m.output
+  output_within = omega (arith, (lent_within e).output, (lent_lengths e).output)
 
-  pub output-taken : c.output ≡ length (take c.output m.output)
-  output-taken = sym (length-take-le c.output m.output output-within)
+  pub output_taken : c.output ≡ length (take c.output m.output)
+  output_taken = sym (length-take-le c.output m.output output_within)
 
-  output-in-use : bytes_of m.output c.output ≡ take c.output m.output
-  output-in-use = bytes_take m.output c.output output-within
+  output_in_use : bytes_of m.output c.output ≡ take c.output m.output
+  output_in_use = bytes_take m.output c.output output_within
 
-  lent-emptied : lent (emptied c) g m ≡ true
-  lent-emptied = let y = lent-within e in lent_by (emptied c) g m (lent-lengths e) (record {
+  lent_emptied : lent (emptied c) g m ≡ true
+  lent_emptied = let y = lent_within e in lent_by (emptied c) g m (lent_lengths e) (record {
     operands = y.operands;
     slots = y.slots;
     frames = y.frames;
@@ -104,48 +104,48 @@ module _ {c : Counts} {g : Tables} {m : Mem} (e : Lent c g m) where
   })
 
   module _ {b b' : List ℕ} {r : Formatted} (f : Writes (take c.output m.output) b r b') where
-    pub drain-short : r ≡ TooShort → Called (H.drain (length b)) c g m (H.refusal 31) c g m × Buffered (H.refusal 31) b b'
-    drain-short q =
+    pub drain_short : r ≡ TooShort → Called (H.drain (length b)) c g m (H.refusal 31) c g m × Buffered (H.refusal 31) b b'
+    drain_short q =
         let s = short f q in
-        let k : leb (length (bytes_of m.output c.output)) (length b) ≡ false = rw output-in-use s.room in
-        (called-no e (ap (λ (x : Bool). H.ask 31 x none) k), record { bytes = s.bytes })
+        let k : leb (length (bytes_of m.output c.output)) (length b) ≡ false = rw output_in_use s.room in
+        (called_no e (ap (λ (x : Bool). H.ask 31 x none) k), record { bytes = s.bytes })
 
-    pub drain-bytes : (k : ℕ) → r ≡ Bytes k → Called (H.drain (length b)) c g m (H.wrote (bytes_of b' k)) (emptied c) g m × Buffered (H.wrote (bytes_of b' k)) b b'
-    drain-bytes k q =
+    pub drain_bytes : (k : ℕ) → r ≡ Bytes k → Called (H.drain (length b)) c g m (H.wrote (bytes_of b' k)) (emptied c) g m × Buffered (H.wrote (bytes_of b' k)) b b'
+    drain_bytes k q =
         let s = fitted f q in
-        let h : leb (length (bytes_of m.output c.output)) (length b) ≡ true = rw output-in-use s.room in
-        let t : bytes_of m.output c.output ≡ bytes_of b' k = output-in-use ∙ sym (fitted-start s) in (
-          called-done e refl (rw h (ap H.wrote t), rw h (ap (λ (o : List ℕ). Fi.setOutput o (stateIn c g m)) (sym (row-none (λ i. get_or m.output i 0))))) lent-emptied (λ d. d) (λ z. z),
-          fitted-buffer s,
+        let h : leb (length (bytes_of m.output c.output)) (length b) ≡ true = rw output_in_use s.room in
+        let t : bytes_of m.output c.output ≡ bytes_of b' k = output_in_use ∙ sym (fitted_start s) in (
+          called_done e refl (rw h (ap H.wrote t), rw h (ap (λ (o : List ℕ). Fi.set_output o (state_in c g m)) (sym (row_none (λ i. get_or m.output i 0))))) lent_emptied (λ d. d) (λ z. z),
+          fitted_buffer s,
         )
 
   -- The text of a value, or of bytes
   module _ (v : Given) where
     abbrev given : Bool
-    given = H.givenFine (St.bytes (stateIn c g m)) v
+    given = H.given_fine (St.bytes (state_in c g m)) v
 
     abbrev fits : ℕ → Bool
-    fits n = leb (length (H.givenText (St.bytes (stateIn c g m)) v)) n
+    fits n = leb (length (H.given_text (St.bytes (state_in c g m)) v)) n
 
-    pub text-29 : {b b' : List ℕ} → H.bytesFine v ≡ false → b' ≡ b → Called (H.text v (length b)) c g m (H.refusal 29) c g m × Buffered (H.refusal 29) b b'
-    text-29 {b} q k = (called-no e (ap (λ (x : Bool). asks x given (fits (length b))) q), record { bytes = k })
+    pub text_29 : {b b' : List ℕ} → H.bytes_fine v ≡ false → b' ≡ b → Called (H.text v (length b)) c g m (H.refusal 29) c g m × Buffered (H.refusal 29) b b'
+    text_29 {b} q k = (called_no e (ap (λ (x : Bool). asks x given (fits (length b))) q), record { bytes = k })
 
-    module _ (p : H.bytesFine v ≡ true) where
-      pub text-30 : {b b' : List ℕ} → given ≡ false → b' ≡ b → Called (H.text v (length b)) c g m (H.refusal 30) c g m × Buffered (H.refusal 30) b b'
-      text-30 {b} q k = (called-no e (ap (λ (x : Bool). asks x given (fits (length b))) p ∙ ap (λ (y : Bool). asks true y (fits (length b))) q), record { bytes = k })
+    module _ (p : H.bytes_fine v ≡ true) where
+      pub text_30 : {b b' : List ℕ} → given ≡ false → b' ≡ b → Called (H.text v (length b)) c g m (H.refusal 30) c g m × Buffered (H.refusal 30) b b'
+      text_30 {b} q k = (called_no e (ap (λ (x : Bool). asks x given (fits (length b))) p ∙ ap (λ (y : Bool). asks true y (fits (length b))) q), record { bytes = k })
 
       module _ (q : given ≡ true) where
-        asked : (n : ℕ) {z : Bool} → fits n ≡ z → H.questions (H.text v n) (stateIn c g m) ≡ H.ask 31 z none
+        asked : (n : ℕ) {z : Bool} → fits n ≡ z → H.questions (H.text v n) (state_in c g m) ≡ H.ask 31 z none
         asked n h = ap (λ (x : Bool). asks x given (fits n)) p ∙ ap (λ (y : Bool). asks true y (fits n)) q ∙ ap (λ (z : Bool). H.ask 31 z none) h
 
-        module _ {b b' : List ℕ} {r : Formatted} (t : Writes (H.givenText (St.bytes (stateIn c g m)) v) b r b') where
-          pub text-31 : r ≡ TooShort → Called (H.text v (length b)) c g m (H.refusal 31) c g m × Buffered (H.refusal 31) b b'
-          text-31 h = let s = short t h in (called-no e (asked (length b) s.room), record { bytes = s.bytes })
+        module _ {b b' : List ℕ} {r : Formatted} (t : Writes (H.given_text (St.bytes (state_in c g m)) v) b r b') where
+          pub text_31 : r ≡ TooShort → Called (H.text v (length b)) c g m (H.refusal 31) c g m × Buffered (H.refusal 31) b b'
+          text_31 h = let s = short t h in (called_no e (asked (length b) s.room), record { bytes = s.bytes })
 
-          pub text-bytes : (k : ℕ) → r ≡ Bytes k → Called (H.text v (length b)) c g m (H.wrote (bytes_of b' k)) c g m × Buffered (H.wrote (bytes_of b' k)) b b'
-          text-bytes k h =
+          pub text_bytes : (k : ℕ) → r ≡ Bytes k → Called (H.text v (length b)) c g m (H.wrote (bytes_of b' k)) c g m × Buffered (H.wrote (bytes_of b' k)) b b'
+          text_bytes k h =
               let s = fitted t h in
-              let z = comes-went (H.text v (length b)) (stateIn c g m) (asked (length b) s.room) (stateIn c g m) (out-next (stateIn c g m)) in (
-                called-done e refl (ap (λ (x : H.Called). x.answer) z.0 ∙ ap H.wrote (sym (fitted-start s)), ap (λ (x : H.Called). x.after) z.0 ∙ z.1) e.right (λ d. d) (λ z. z),
-                fitted-buffer s,
+              let z = comes_went (H.text v (length b)) (state_in c g m) (asked (length b) s.room) (state_in c g m) (out_next (state_in c g m)) in (
+                called_done e refl (ap (λ (x : H.Called). x.answer) z.0 ∙ ap H.wrote (sym (fitted_start s)), ap (λ (x : H.Called). x.after) z.0 ∙ z.1) e.right (λ d. d) (λ z. z),
+                fitted_buffer s,
               )

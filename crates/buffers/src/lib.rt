@@ -2,12 +2,12 @@
 #![tactic(auto)]
 
 ghost use Rattle.std.specs.Prelude.{length};
-ghost use Rattle.machine.specs.Act.{plain, asBytes};
+ghost use Rattle.machine.specs.Act.{plain, as_bytes};
 ghost use Rattle.machine.specs.Host as Host;
 ghost use Rattle.value.specs.Words.{value_of};
 ghost use Rattle.heapops.specs.Turns.{mem};
 ghost use Rattle.finish.specs.Parts.{tables};
-ghost use Rattle.host.specs.Calls.{Called, Buffered, answerOfText, answerOfDrain, countsOfDrain};
+ghost use Rattle.host.specs.Calls.{Called, Buffered, answer_of_text, answer_of_drain, counts_of_drain};
 
 use heapops::Counts;
 use host::questions::{handle_fine, is_ascii, lent};
@@ -28,8 +28,8 @@ pub fn text_of<'a>(
     v: Value,
     buffer: &mut [u8],
 ) -> Wrote
-    ensures called { Called (Host.text (plain (value_of v)) (length buffer.old)) c (tables code.now places.now rows.now starts.now) (mem stacks.now heap.now text.now output.now) (answerOfText result buffer.new) c (tables code.now places.now rows.now starts.now) (mem stacks.now heap.now text.now output.now) }
-    ensures buffered { Buffered (answerOfText result buffer.new) buffer.old buffer.new }
+    ensures called { Called (Host.text (plain (value_of v)) (length buffer.old)) c (tables code.now places.now rows.now starts.now) (mem stacks.now heap.now text.now output.now) (answer_of_text result buffer.new) c (tables code.now places.now rows.now starts.now) (mem stacks.now heap.now text.now output.now) }
+    ensures buffered { Buffered (answer_of_text result buffer.new) buffer.old buffer.new }
 {
     if lent(code, places, rows, starts, stacks, heap, text, output, c) {
         if handle_fine(code, c.code, text, c.text, v) {
@@ -57,8 +57,8 @@ pub fn text_of_bytes(
     given: &[u8],
     buffer: &mut [u8],
 ) -> Wrote
-    ensures called { Called (Host.text (asBytes given.now) (length buffer.old)) c (tables code.now places.now rows.now starts.now) (mem stacks.now heap.now text.now output.now) (answerOfText result buffer.new) c (tables code.now places.now rows.now starts.now) (mem stacks.now heap.now text.now output.now) }
-    ensures buffered { Buffered (answerOfText result buffer.new) buffer.old buffer.new }
+    ensures called { Called (Host.text (as_bytes given.now) (length buffer.old)) c (tables code.now places.now rows.now starts.now) (mem stacks.now heap.now text.now output.now) (answer_of_text result buffer.new) c (tables code.now places.now rows.now starts.now) (mem stacks.now heap.now text.now output.now) }
+    ensures buffered { Buffered (answer_of_text result buffer.new) buffer.old buffer.new }
 {
     if lent(code, places, rows, starts, stacks, heap, text, output, c) {
         if is_ascii(given) {
@@ -84,8 +84,8 @@ pub fn drain(
     c: Counts,
     buffer: &mut [u8],
 ) -> Drained
-    ensures called { Called (Host.drain (length buffer.old)) c (tables code.now places.now rows.now starts.now) (mem stacks.now heap.now text.now output.now) (answerOfDrain result buffer.new) (countsOfDrain c result) (tables code.now places.now rows.now starts.now) (mem stacks.now heap.now text.now output.now) }
-    ensures buffered { Buffered (answerOfDrain result buffer.new) buffer.old buffer.new }
+    ensures called { Called (Host.drain (length buffer.old)) c (tables code.now places.now rows.now starts.now) (mem stacks.now heap.now text.now output.now) (answer_of_drain result buffer.new) (counts_of_drain c result) (tables code.now places.now rows.now starts.now) (mem stacks.now heap.now text.now output.now) }
+    ensures buffered { Buffered (answer_of_drain result buffer.new) buffer.old buffer.new }
 {
     if lent(code, places, rows, starts, stacks, heap, text, output, c) {
         let n = c.output;

@@ -7,19 +7,19 @@ use Rattle.machine.specs.Act.{need}
 use Rattle.machine.specs.Program.{fits}
 use Rattle.machine.specs.Host as H
 use Rattle.machine.specs.Demand3.{All}
-use Rattle.machine.specs.Format.{judge, placed, templateIn}
+use Rattle.machine.specs.Format.{judge, placed, template_in}
 use Rattle.machine.specs.Writer as W
-use Rattle.machine.proofs.Loads.{loadAnswer}
+use Rattle.machine.proofs.Loads.{load_answer}
 use Rattle.machine.proofs.Writes.{Given}
-use Rattle.machine.proofs.Writer.{writer-load, writer-reads}
+use Rattle.machine.proofs.Writer.{writer_load, writer_reads}
 use Rattle.heapops.specs.declared.Counts.{Counts}
 use Rattle.heapops.specs.Turns.{Mem}
 use Rattle.finish.specs.Parts.{Tables}
-use Rattle.run.specs.Runs.{stateIn}
+use Rattle.run.specs.Runs.{state_in}
 use Rattle.host.specs.Calls.{lent, Stands, Called}
 use Rattle.writer.specs.declared.Writer.{Writer}
-use Rattle.writer.specs.View.{sessionOf}
-use Rattle.writer.specs.Promise.{Made, addedBy, begun-holds, image_of}
+use Rattle.writer.specs.View.{session_of}
+use Rattle.writer.specs.Promise.{Made, added_by, begun_holds, image_of}
 
 module _ {w y : Writer} {b b' : List ℕ} {cs : List W.Call} (made : Made w b (W.begin ∷ cs) y b') (two : 2 ≤ length b) (given : All Given cs)
     {c c' : Counts} {g g' : Tables} {m m' : Mem} {a : H.Answer} (call : Called (H.load (image_of y b')) c g m a c' g' m') (stands : lent c g m ≡ true → Stands c g) where
@@ -27,26 +27,26 @@ module _ {w y : Writer} {b b' : List ℕ} {cs : List W.Call} (made : Made w b (W
   image = image_of y b'
 
   abbrev before : St.State
-  before = stateIn c g m
+  before = state_in c g m
 
   abbrev after : St.State
-  after = stateIn c' g' m'
+  after = state_in c' g' m'
 
-  abbrev hasCode : Bool
-  hasCode = fits before (need St.codeStore (length image))
+  abbrev has_code : Bool
+  has_code = fits before (need St.code_store (length image))
 
-  abbrev hasImage : Bool
-  hasImage = fits before (need St.imageStore 1)
+  abbrev has_image : Bool
+  has_image = fits before (need St.image_store 1)
 
   -- ACCEPTED EXACTLY when 33, 2 to 6, 8 and 9 are answered yes.
-  pub written-loads : a ≡ loadAnswer (lent c g m) (judge (addedBy w b cs)) hasCode hasImage (length before.images)
-  written-loads = sym (call.machine stands).0 ∙ writer-load (sessionOf y b') (addedBy w b cs) (begun-holds made two given) before (lent c g m)
+  pub written_loads : a ≡ load_answer (lent c g m) (judge (added_by w b cs)) has_code has_image (length before.images)
+  written_loads = sym (call.machine stands).0 ∙ writer_load (session_of y b') (added_by w b cs) (begun_holds made two given) before (lent c g m)
 
   -- .. AND THEN IT READS THE SAME TEMPLATES: parameters, locals, constants with texts as bytes, code as bytes.
-  pub written-reads : lent c g m ≡ true → judge (addedBy w b cs) ≡ none → hasCode ≡ true → hasImage ≡ true
-      → (after.images ≡ before.images ++ placed (length before.code) (addedBy w b cs) ∷ [])
-      × (map (templateIn (St.bytes after)) (placed (length before.code) (addedBy w b cs)) ≡ addedBy w b cs)
-  written-reads l j k i =
-      let e : (H.perform (H.load image) before).after ≡ after = ap (λ (t : Bool). (H.performOn t (H.load image) before).after) (sym l) ∙ (call.machine stands).1 in
-      subst (λ (s : St.State). (s.images ≡ before.images ++ placed (length before.code) (addedBy w b cs) ∷ []) × (map (templateIn (St.bytes s)) (placed (length before.code) (addedBy w b cs)) ≡ addedBy w b cs))
-      e (writer-reads (sessionOf y b') (addedBy w b cs) (begun-holds made two given) before j k i)
+  pub written_reads : lent c g m ≡ true → judge (added_by w b cs) ≡ none → has_code ≡ true → has_image ≡ true
+      → (after.images ≡ before.images ++ placed (length before.code) (added_by w b cs) ∷ [])
+      × (map (template_in (St.bytes after)) (placed (length before.code) (added_by w b cs)) ≡ added_by w b cs)
+  written_reads l j k i =
+      let e : (H.perform (H.load image) before).after ≡ after = ap (λ (t : Bool). (H.perform_on t (H.load image) before).after) (sym l) ∙ (call.machine stands).1 in
+      subst (λ (s : St.State). (s.images ≡ before.images ++ placed (length before.code) (added_by w b cs) ∷ []) × (map (template_in (St.bytes s)) (placed (length before.code) (added_by w b cs)) ≡ added_by w b cs))
+      e (writer_reads (session_of y b') (added_by w b cs) (begun_holds made two given) before j k i)

@@ -4,11 +4,11 @@
 
 ghost use Rattle.std.specs.Prelude.{length};
 ghost use Rattle.machine.specs.Host as Host;
-ghost use Rattle.machine.specs.Act.{plain, asBytes};
+ghost use Rattle.machine.specs.Act.{plain, as_bytes};
 ghost use Rattle.heapops.specs.Turns.{mem};
 ghost use Rattle.finish.specs.Parts.{tables};
 ghost use Rattle.host.specs.Calls.{Buffered};
-ghost use Rattle.answers.specs.Flat.{Tells, TellsValue, TellsRun, TellsClear, numberedBy, changedBy, wroteBy, valueBy};
+ghost use Rattle.answers.specs.Flat.{Tells, TellsValue, TellsRun, TellsClear, numbered_by, changed_by, wrote_by, value_by};
 
 use answers::{
     Answer, RunTold, ValueAnswer, changed, decoded, drained, numbered, ran, valued, wrote,
@@ -50,7 +50,7 @@ pub extern "C" fn carderwheel_load_in(
     counts: Counts,
     image: &[u8],
 ) -> Answer
-    ensures { Tells (Host.load image.now) counts (tables code.old places.old rows.old starts.old) (mem stacks.now heap.now text.now output.now) (numberedBy result) result (tables code.new places.new rows.new starts.new) (mem stacks.now heap.now text.now output.now) }
+    ensures { Tells (Host.load image.now) counts (tables code.old places.old rows.old starts.old) (mem stacks.now heap.now text.now output.now) (numbered_by result) result (tables code.new places.new rows.new starts.new) (mem stacks.now heap.now text.now output.now) }
 {
     let x = engine::images::load(
         code, places, rows, starts, stacks, heap, text, output, counts, image,
@@ -72,7 +72,7 @@ pub extern "C" fn carderwheel_register_in(
     image: usize,
     template: usize,
 ) -> Answer
-    ensures { Tells (Host.register image template) counts (tables code.now places.now rows.now starts.now) (mem stacks.now heap.old text.now output.now) (numberedBy result) result (tables code.now places.now rows.now starts.now) (mem stacks.now heap.new text.now output.now) }
+    ensures { Tells (Host.register image template) counts (tables code.now places.now rows.now starts.now) (mem stacks.now heap.old text.now output.now) (numbered_by result) result (tables code.now places.now rows.now starts.now) (mem stacks.now heap.new text.now output.now) }
 {
     let x = engine::images::register(
         code, places, rows, starts, stacks, heap, text, output, counts, image, template,
@@ -94,7 +94,7 @@ pub extern "C" fn carderwheel_set_global_in(
     name: &[u8],
     value: Words,
 ) -> Answer
-    ensures { Tells (Host.setGlobal name.now (plain (valueBy value))) counts (tables code.now places.now rows.now starts.now) (mem stacks.now heap.old text.old output.now) (changedBy result) result (tables code.now places.now rows.now starts.now) (mem stacks.now heap.new text.new output.now) }
+    ensures { Tells (Host.set_global name.now (plain (value_by value))) counts (tables code.now places.now rows.now starts.now) (mem stacks.now heap.old text.old output.now) (changed_by result) result (tables code.now places.now rows.now starts.now) (mem stacks.now heap.new text.new output.now) }
 {
     let v = decoded(value);
     let x = globals::set_global(
@@ -117,7 +117,7 @@ pub extern "C" fn carderwheel_set_global_text_in(
     name: &[u8],
     given: &[u8],
 ) -> Answer
-    ensures { Tells (Host.setGlobal name.now (asBytes given.now)) counts (tables code.now places.now rows.now starts.now) (mem stacks.now heap.old text.old output.now) (changedBy result) result (tables code.now places.now rows.now starts.now) (mem stacks.now heap.new text.new output.now) }
+    ensures { Tells (Host.set_global name.now (as_bytes given.now)) counts (tables code.now places.now rows.now starts.now) (mem stacks.now heap.old text.old output.now) (changed_by result) result (tables code.now places.now rows.now starts.now) (mem stacks.now heap.new text.new output.now) }
 {
     let x = globals::set_global_text(
         code, places, rows, starts, stacks, heap, text, output, counts, name, given,
@@ -138,7 +138,7 @@ pub extern "C" fn carderwheel_read_global_in(
     counts: Counts,
     name: &[u8],
 ) -> ValueAnswer
-    ensures { TellsValue (Host.readGlobal name.now) counts (tables code.now places.now rows.now starts.now) (mem stacks.now heap.now text.now output.now) result }
+    ensures { TellsValue (Host.read_global name.now) counts (tables code.now places.now rows.now starts.now) (mem stacks.now heap.now text.now output.now) result }
 {
     let x = globals::read_global(
         code, places, rows, starts, stacks, heap, text, output, counts, name,
@@ -181,8 +181,8 @@ pub extern "C" fn carderwheel_text_in<'a>(
     value: Words,
     buffer: &mut [u8],
 ) -> Answer
-    ensures tells { Tells (Host.text (plain (valueBy value)) (length buffer.old)) counts (tables code.now places.now rows.now starts.now) (mem stacks.now heap.now text.now output.now) (wroteBy result buffer.new) result (tables code.now places.now rows.now starts.now) (mem stacks.now heap.now text.now output.now) }
-    ensures buffered { Buffered (wroteBy result buffer.new) buffer.old buffer.new }
+    ensures tells { Tells (Host.text (plain (value_by value)) (length buffer.old)) counts (tables code.now places.now rows.now starts.now) (mem stacks.now heap.now text.now output.now) (wrote_by result buffer.new) result (tables code.now places.now rows.now starts.now) (mem stacks.now heap.now text.now output.now) }
+    ensures buffered { Buffered (wrote_by result buffer.new) buffer.old buffer.new }
 {
     let v = decoded(value);
     let x = buffers::text_of(
@@ -205,8 +205,8 @@ pub extern "C" fn carderwheel_text_bytes_in(
     given: &[u8],
     buffer: &mut [u8],
 ) -> Answer
-    ensures tells { Tells (Host.text (asBytes given.now) (length buffer.old)) counts (tables code.now places.now rows.now starts.now) (mem stacks.now heap.now text.now output.now) (wroteBy result buffer.new) result (tables code.now places.now rows.now starts.now) (mem stacks.now heap.now text.now output.now) }
-    ensures buffered { Buffered (wroteBy result buffer.new) buffer.old buffer.new }
+    ensures tells { Tells (Host.text (as_bytes given.now) (length buffer.old)) counts (tables code.now places.now rows.now starts.now) (mem stacks.now heap.now text.now output.now) (wrote_by result buffer.new) result (tables code.now places.now rows.now starts.now) (mem stacks.now heap.now text.now output.now) }
+    ensures buffered { Buffered (wrote_by result buffer.new) buffer.old buffer.new }
 {
     let x = buffers::text_of_bytes(
         code, places, rows, starts, stacks, heap, text, output, counts, given, buffer,
@@ -227,8 +227,8 @@ pub extern "C" fn carderwheel_drain_in(
     counts: Counts,
     buffer: &mut [u8],
 ) -> Answer
-    ensures tells { Tells (Host.drain (length buffer.old)) counts (tables code.now places.now rows.now starts.now) (mem stacks.now heap.now text.now output.now) (wroteBy result buffer.new) result (tables code.now places.now rows.now starts.now) (mem stacks.now heap.now text.now output.now) }
-    ensures buffered { Buffered (wroteBy result buffer.new) buffer.old buffer.new }
+    ensures tells { Tells (Host.drain (length buffer.old)) counts (tables code.now places.now rows.now starts.now) (mem stacks.now heap.now text.now output.now) (wrote_by result buffer.new) result (tables code.now places.now rows.now starts.now) (mem stacks.now heap.now text.now output.now) }
+    ensures buffered { Buffered (wrote_by result buffer.new) buffer.old buffer.new }
 {
     let x = buffers::drain(
         code, places, rows, starts, stacks, heap, text, output, counts, buffer,

@@ -4,7 +4,7 @@ use Rattle.std.proofs.Common.{arith, add-one, sym, ap, ◌∙◌, drop_of_length
 use Rattle.std.proofs.Math.Option.{Option, none, some}
 use Rattle.std.specs.Prelude.{if◌then◌else◌}
 use Rattle.machine.specs.Number as N
-use Rattle.machine.specs.Convert.{worth, digitsKey, arrayKey}
+use Rattle.machine.specs.Convert.{worth, digits_key, array_key}
 use Rattle.convert.specs.declared.Key.{Key}
 use Rattle.convert.specs.declared.Key.TheVariants.{Index, Name}
 
@@ -12,18 +12,18 @@ abbrev pub key_of : Key → Option ℕ
 key_of (Index i) = some i
 key_of Name = none
 
-pub key-none : (s : List ℕ) → length s ≡ 0 → none ≡ digitsKey s
-key-none [] h = refl
-key-none (b ∷ s) h = absurd (omega arith)
+pub key_none : (s : List ℕ) → length s ≡ 0 → none ≡ digits_key s
+key_none [] h = refl
+key_none (b ∷ s) h = absurd (omega arith)
 
-key-some : (s : List ℕ) → 0 < length s → worth 0 s ≡ digitsKey s
-key-some [] h = absurd (omega arith)
-key-some (b ∷ s) h = refl
+key_some : (s : List ℕ) → 0 < length s → worth 0 s ≡ digits_key s
+key_some [] h = absurd (omega arith)
+key_some (b ∷ s) h = refl
 
 -- what is too large stays so
-worth-large : (n : ℕ) (s : List ℕ) → 2 ^ 64 ≤ n → worth n s ≡ none
-worth-large n [] h = ap (λ (t : Bool). if t then some n else none) (le-ltb n (2 ^ 64) h)
-worth-large n (b ∷ s) h = go (N.isDigit b) (worth-large (n * 10 + (b - 48)) s (omega arith))
+worth_large : (n : ℕ) (s : List ℕ) → 2 ^ 64 ≤ n → worth n s ≡ none
+worth_large n [] h = ap (λ (t : Bool). if t then some n else none) (le-ltb n (2 ^ 64) h)
+worth_large n (b ∷ s) h = go (N.is_digit b) (worth_large (n * 10 + (b - 48)) s (omega arith))
   where
     go : (t : Bool) → worth (n * 10 + (b - 48)) s ≡ none → (if t then worth (n * 10 + (b - 48)) s else none) ≡ none
     go true e = e
@@ -34,54 +34,54 @@ and_second true y e = e
 and_second false true e = refl
 and_second false false e = e
 
-digit-small : (b d : ℕ) → N.isDigit b ≡ true → d ≡ b - 48 → d < 10
-digit-small b d e q = let h = leb-true b 57 (and_second (leb 48 b) (leb b 57) e) in omega arith
+digit_small : (b d : ℕ) → N.is_digit b ≡ true → d ≡ b - 48 → d < 10
+digit_small b d e q = let h = leb-true b 57 (and_second (leb 48 b) (leb b 57) e) in omega arith
 
 -- n is the worth of the first i bytes
 pub record Reading (s : List ℕ) (n i : ℕ) : Type 0 where
-  pub same : worth n (drop i s) ≡ digitsKey s
+  pub same : worth n (drop i s) ≡ digits_key s
   pub fits : n < 2 ^ 64
   pub within : i ≤ length s
 
 module _ (s : List ℕ) where
-  pub reading-start : 0 < length s → Reading s 0 0
-  reading-start h = record { same = key-some s h; fits = omega arith; within = omega arith }
+  pub reading_start : 0 < length s → Reading s 0 0
+  reading_start h = record { same = key_some s h; fits = omega arith; within = omega arith }
 
   module _ (n i : ℕ) (r : Reading s n i) where
-    pub reading-end : length s ≤ i → some n ≡ digitsKey s
-    reading-end h = sym (sym r.same ∙ ap (worth n) (drop_of_length-le s h) ∙ ap (λ (t : Bool). if t then some n else none) (lt-ltb n (2 ^ 64) r.fits))
+    pub reading_end : length s ≤ i → some n ≡ digits_key s
+    reading_end h = sym (sym r.same ∙ ap (worth n) (drop_of_length-le s h) ∙ ap (λ (t : Bool). if t then some n else none) (lt-ltb n (2 ^ 64) r.fits))
 
     module _ (h : i < length s) where
-      at_byte : worth n (drop i s) ≡ (if N.isDigit (get_or s i 0) then worth (n * 10 + (get_or s i 0 - 48)) (drop (i + 1) s) else none)
-      at_byte = ap (worth n) (drop-cons s i 0 h) ∙ ap (λ (k : ℕ). if N.isDigit (get_or s i 0) then worth (n * 10 + (get_or s i 0 - 48)) (drop k s) else none) (sym (add-one i))
+      at_byte : worth n (drop i s) ≡ (if N.is_digit (get_or s i 0) then worth (n * 10 + (get_or s i 0 - 48)) (drop (i + 1) s) else none)
+      at_byte = ap (worth n) (drop-cons s i 0 h) ∙ ap (λ (k : ℕ). if N.is_digit (get_or s i 0) then worth (n * 10 + (get_or s i 0 - 48)) (drop k s) else none) (sym (add-one i))
 
-      pub reading-bad : N.isDigit (get_or s i 0) ≡ false → none ≡ digitsKey s
-      reading-bad e = sym (sym r.same ∙ at_byte ∙ ap (λ (t : Bool). if t then worth (n * 10 + (get_or s i 0 - 48)) (drop (i + 1) s) else none) e)
+      pub reading_bad : N.is_digit (get_or s i 0) ≡ false → none ≡ digits_key s
+      reading_bad e = sym (sym r.same ∙ at_byte ∙ ap (λ (t : Bool). if t then worth (n * 10 + (get_or s i 0 - 48)) (drop (i + 1) s) else none) e)
 
-      module _ (d : ℕ) (e : N.isDigit (get_or s i 0) ≡ true) (q : d ≡ get_or s i 0 - 48) where
-        next-byte : worth (n * 10 + d) (drop (i + 1) s) ≡ digitsKey s
-        next-byte =
+      module _ (d : ℕ) (e : N.is_digit (get_or s i 0) ≡ true) (q : d ≡ get_or s i 0 - 48) where
+        next_byte : worth (n * 10 + d) (drop (i + 1) s) ≡ digits_key s
+        next_byte =
             ap (λ (k : ℕ). worth (n * 10 + k) (drop (i + 1) s)) q
             ∙ sym (sym r.same ∙ at_byte ∙ ap (λ (t : Bool). if t then worth (n * 10 + (get_or s i 0 - 48)) (drop (i + 1) s) else none) e)
 
-        pub reading-fits : n ≤ (2 ^ 64 - 1 - d) / 10 → n * 10 + d < 2 ^ 64
-        reading-fits g = let l = digit-small (get_or s i 0) d e q in omega arith
+        pub reading_fits : n ≤ (2 ^ 64 - 1 - d) / 10 → n * 10 + d < 2 ^ 64
+        reading_fits g = let l = digit_small (get_or s i 0) d e q in omega arith
 
-        pub reading-large : (2 ^ 64 - 1 - d) / 10 < n → none ≡ digitsKey s
-        reading-large g = sym (sym next-byte ∙ worth-large (n * 10 + d) (drop (i + 1) s) (omega arith))
+        pub reading_large : (2 ^ 64 - 1 - d) / 10 < n → none ≡ digits_key s
+        reading_large g = sym (sym next_byte ∙ worth_large (n * 10 + d) (drop (i + 1) s) (omega arith))
 
-        pub reading-more : n ≤ (2 ^ 64 - 1 - d) / 10 → Reading s (n * 10 + d) (i + 1)
-        reading-more g = record { same = next-byte; fits = reading-fits g; within = omega arith }
+        pub reading_more : n ≤ (2 ^ 64 - 1 - d) / 10 → Reading s (n * 10 + d) (i + 1)
+        reading_more g = record { same = next_byte; fits = reading_fits g; within = omega arith }
 
 -- the sign
-pub array-none : (s : List ℕ) → length s ≡ 0 → none ≡ arrayKey s
-array-none [] h = refl
-array-none (b ∷ s) h = absurd (omega arith)
+pub array_none : (s : List ℕ) → length s ≡ 0 → none ≡ array_key s
+array_none [] h = refl
+array_none (b ∷ s) h = absurd (omega arith)
 
-pub array-plus : (s : List ℕ) (r : Option ℕ) → 0 < length s → get_or s 0 0 ≡ 43 → r ≡ digitsKey (drop 1 s) → r ≡ arrayKey s
-array-plus [] r h e q = absurd (omega arith)
-array-plus (b ∷ s) r h e q = q ∙ sym (ap (λ (t : Bool). if t then digitsKey s else digitsKey (b ∷ s)) (eq-eqb b 43 e))
+pub array_plus : (s : List ℕ) (r : Option ℕ) → 0 < length s → get_or s 0 0 ≡ 43 → r ≡ digits_key (drop 1 s) → r ≡ array_key s
+array_plus [] r h e q = absurd (omega arith)
+array_plus (b ∷ s) r h e q = q ∙ sym (ap (λ (t : Bool). if t then digits_key s else digits_key (b ∷ s)) (eq-eqb b 43 e))
 
-pub array_plain : (s : List ℕ) (r : Option ℕ) → 0 < length s → (get_or s 0 0 ≡ 43 → ⊥) → r ≡ digitsKey s → r ≡ arrayKey s
+pub array_plain : (s : List ℕ) (r : Option ℕ) → 0 < length s → (get_or s 0 0 ≡ 43 → ⊥) → r ≡ digits_key s → r ≡ array_key s
 array_plain [] r h e q = absurd (omega arith)
-array_plain (b ∷ s) r h e q = q ∙ sym (ap (λ (t : Bool). if t then digitsKey s else digitsKey (b ∷ s)) (ne_eqb b 43 e))
+array_plain (b ∷ s) r h e q = q ∙ sym (ap (λ (t : Bool). if t then digits_key s else digits_key (b ∷ s)) (ne_eqb b 43 e))

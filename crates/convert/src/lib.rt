@@ -2,7 +2,7 @@
 #![tactic(auto)]
 
 ghost use Rattle.std.specs.Prelude.{◌≡◌, ◌-◌, ◌≤◌};
-ghost use Rattle.machine.specs.Convert.{toNumber, strictEq, abstractEq, looseSeen, see, digitsKey, arrayKey, lengthFloor};
+ghost use Rattle.machine.specs.Convert.{to_number, strict_eq, abstract_eq, loose_seen, see, digits_key, array_key, length_floor};
 ghost use Rattle.value.specs.Words.{value_of};
 ghost use Rattle.texts.specs.Sources.{InUse, stores_of};
 ghost use Rattle.convert.specs.Truth.{Truth};
@@ -35,7 +35,7 @@ pub fn to_boolean(n: usize, m: usize, v: Value) -> bool
 
 pub fn to_number<'a>(code: &'a [u8], n: usize, text: &'a [u8], m: usize, v: Value) -> JsNumber
     requires { InUse code.now n text.now m }
-    ensures { result.bits ≡ toNumber (stores_of code.now n text.now m) (value_of v) }
+    ensures { result.bits ≡ to_number (stores_of code.now n text.now m) (value_of v) }
 {
     match v {
         Value::Undefined => JsNumber::JS_NAN,
@@ -90,7 +90,7 @@ pub fn show(v: Value) -> Shown
 
 pub fn strict_eq<'a>(code: &'a [u8], n: usize, text: &'a [u8], m: usize, v: Value, u: Value) -> bool
     requires { InUse code.now n text.now m }
-    ensures { result ≡ strictEq (stores_of code.now n text.now m) (value_of v) (value_of u) }
+    ensures { result ≡ strict_eq (stores_of code.now n text.now m) (value_of v) (value_of u) }
 {
     let first = show(v);
     let second = show(u);
@@ -119,7 +119,7 @@ pub fn strict_eq<'a>(code: &'a [u8], n: usize, text: &'a [u8], m: usize, v: Valu
 // Where `===` says no: null with undefined, and a number with a text that reads as it.
 pub fn loose_eq<'a>(code: &'a [u8], n: usize, text: &'a [u8], m: usize, v: Value, u: Value) -> bool
     requires { InUse code.now n text.now m }
-    ensures { result ≡ looseSeen (see (stores_of code.now n text.now m) (value_of v)) (see (stores_of code.now n text.now m) (value_of u)) }
+    ensures { result ≡ loose_seen (see (stores_of code.now n text.now m) (value_of v)) (see (stores_of code.now n text.now m) (value_of u)) }
 {
     let first = show(v);
     let second = show(u);
@@ -162,7 +162,7 @@ pub fn abstract_eq<'a>(
     u: Value,
 ) -> bool
     requires { InUse code.now n text.now m }
-    ensures { result ≡ abstractEq (stores_of code.now n text.now m) (value_of v) (value_of u) }
+    ensures { result ≡ abstract_eq (stores_of code.now n text.now m) (value_of v) (value_of u) }
 {
     if strict_eq(code, n, text, m, v, u) {
         return true;
@@ -187,7 +187,7 @@ fn digit_of(b: u8) -> u64
 }
 
 pub fn digits_key(s: &[u8]) -> Key
-    ensures { key_of result ≡ digitsKey s.now }
+    ensures { key_of result ≡ digits_key s.now }
 {
     if s.len() == 0 {
         return Key::Name;
@@ -211,7 +211,7 @@ pub fn digits_key(s: &[u8]) -> Key
 }
 
 pub fn array_key(s: &[u8]) -> Key
-    ensures { key_of result ≡ arrayKey s.now }
+    ensures { key_of result ≡ array_key s.now }
 {
     if s.len() == 0 {
         return Key::Name;
@@ -224,7 +224,7 @@ pub fn array_key(s: &[u8]) -> Key
 
 /// What an array's `length` is worth.
 pub fn length_floor(v: Value) -> u64
-    ensures { result ≡ lengthFloor (value_of v) }
+    ensures { result ≡ length_floor (value_of v) }
 {
     match v {
         Value::Undefined => 0,

@@ -8,9 +8,9 @@ use Rattle.machine.specs.Act as A
 use Rattle.machine.specs.Program.{Program, make, next}
 use Rattle.machine.specs.Instruction as I
 use Rattle.machine.specs.Run as R
-use Rattle.machine.specs.Out.{out, out-popFrame, out-next}
-use Rattle.value.specs.Lists.{bytes_of, stack-pop, stack-none}
-use Rattle.stacks.specs.Layout.{framesAt}
+use Rattle.machine.specs.Out.{out, out_pop_frame, out_next}
+use Rattle.value.specs.Lists.{bytes_of, stack_pop, stack_none}
+use Rattle.stacks.specs.Layout.{frames_at}
 use Rattle.stacks.specs.View
 use Rattle.stacks.specs.declared.Depths.{Depths}
 use Rattle.outcome.specs.Meets.{Meets, Any, Tells, KeptOf, stepped}
@@ -20,7 +20,7 @@ use Rattle.outcome.specs.declared.Stepped.{Stepped}
 use Rattle.fetch.specs.declared.Running.{Running}
 use Rattle.fetch.specs.declared.Fetched.{Fetched}
 use Rattle.fetch.specs.declared.Fetched.TheVariants.{Got, Missing}
-use Rattle.fetch.specs.Running.{Runs, Coded, CodedText, Texts, Fetches, fetchThen, current-is, got}
+use Rattle.fetch.specs.Running.{Runs, Coded, CodedText, Texts, Fetches, fetch_then, current_is, got}
 use Rattle.readops.specs.Holds.{Constants}
 
 -- the code, constants and texts that the state s has
@@ -29,17 +29,17 @@ pub record Held (x : Running) (n : ℕ) (code places : List ℕ) (m : ℕ) (t : 
   pub text : s.text ≡ bytes_of t m
 
 module _ {x : Running} {n : ℕ} {code places : List ℕ} {m : ℕ} {t : List ℕ} where
-  pub to-coded : (s : St.State) → Held x n code places m t s → Coded x n code s
-  to-coded s h = h.constants.coded
+  pub to_coded : (s : St.State) → Held x n code places m t s → Coded x n code s
+  to_coded s h = h.constants.coded
 
-  pub to-constants : (s : St.State) → Held x n code places m t s → Constants x n code places s
-  to-constants s h = h.constants
+  pub to_constants : (s : St.State) → Held x n code places m t s → Constants x n code places s
+  to_constants s h = h.constants
 
-  pub to-coded-text : (s : St.State) → Held x n code places m t s → CodedText x n code m t s
-  to-coded-text s h = record { coded = h.constants.coded; text = h.text }
+  pub to_coded_text : (s : St.State) → Held x n code places m t s → CodedText x n code m t s
+  to_coded_text s h = record { coded = h.constants.coded; text = h.text }
 
-  pub to-texts : (s : St.State) → Held x n code places m t s → Texts code n t m s
-  to-texts s h = record { code = h.constants.coded.code; text = h.text }
+  pub to_texts : (s : St.State) → Held x n code places m t s → Texts code n t m s
+  to_texts s h = record { code = h.constants.coded.code; text = h.text }
 
 -- a byte that is none of these
 abbrev pub NoneOf : ℕ → List ℕ → Type 0
@@ -61,7 +61,7 @@ KeptBy x (Print k) d w w' = KeptOf (Print k) d w w'
 KeptBy x (More b) d w w' = (w' ≡ w) × View.Ready d w × Runs x d w × NoneOf b dispatched × (b < 256)
 
 pub record Dispatches (H : St.State → Type 0) (x : Running) (p : Program) (d : Depths) (w : List ℕ) (r : Stepped) (w' : List ℕ) : Type 0 where
-  pub goes : (s : St.State) → H s → Tells r.how r.depths w' s (out p (View.onStacks d w s))
+  pub goes : (s : St.State) → H s → Tells r.how r.depths w' s (out p (View.on_stacks d w s))
   pub kept : KeptBy x r.how r.depths w w'
 
 kept_by : (x : Running) (h : Part) (d : Depths) (w w' : List ℕ) → KeptOf h d w w' → KeptBy x h d w w'
@@ -74,77 +74,77 @@ kept_by x (Print n) d w w' k = k
 kept_by x (More _) d w w' k = elim k [ ]
 
 module _ {H : St.State → Type 0} {x : Running} {p : Program} {d : Depths} {w w' : List ℕ} {r : Stepped} where
-  pub by-meets : {K : St.State → Type 0} → ((s : St.State) → H s → K s) → Meets K p d w r w' → Dispatches H x p d w r w'
-  by-meets f m = record { goes = λ s h. m.goes s (f s h); kept = kept_by x r.how r.depths w w' m.kept }
+  pub by_meets : {K : St.State → Type 0} → ((s : St.State) → H s → K s) → Meets K p d w r w' → Dispatches H x p d w r w'
+  by_meets f m = record { goes = λ s h. m.goes s (f s h); kept = kept_by x r.how r.depths w w' m.kept }
 
   -- whatever the state is
-  pub by-any : Meets Any p d w r w' → Dispatches H x p d w r w'
-  by-any m = record { goes = λ s h. m.goes s tt; kept = kept_by x r.how r.depths w w' m.kept }
+  pub by_any : Meets Any p d w r w' → Dispatches H x p d w r w'
+  by_any m = record { goes = λ s h. m.goes s tt; kept = kept_by x r.how r.depths w w' m.kept }
 
-pub by-more : {H : St.State → Type 0} {x : Running} {b : ℕ} {d : Depths} {w : List ℕ} {r : Stepped} → View.Ready d w → Runs x d w → NoneOf b dispatched → b < 256 → r ≡ stepped d (More b)
+pub by_more : {H : St.State → Type 0} {x : Running} {b : ℕ} {d : Depths} {w : List ℕ} {r : Stepped} → View.Ready d w → Runs x d w → NoneOf b dispatched → b < 256 → r ≡ stepped d (More b)
     → Dispatches H x (I.instruction b) d w r w
-by-more {H} {x} {b} {d} {w} a q n l e = subst (λ (y : Stepped). Dispatches H x (I.instruction b) d w y w) (sym e) (record { goes = λ s h. refl; kept = (refl, a, q, n, l) })
+by_more {H} {x} {b} {d} {w} a q n l e = subst (λ (y : Stepped). Dispatches H x (I.instruction b) d w y w) (sym e) (record { goes = λ s h. refl; kept = (refl, a, q, n, l) })
 
 -- A STEP: the machine's program for the state that stands
 pub record Steps (H : St.State → Type 0) (x : Running) (d : Depths) (w : List ℕ) (r : Stepped) (w' : List ℕ) : Type 0 where
-  pub goes : (s : St.State) → H s → Tells r.how r.depths w' s (out (R.body (R.kind_of (View.onStacks d w s))) (View.onStacks d w s))
+  pub goes : (s : St.State) → H s → Tells r.how r.depths w' s (out (R.body (R.kind_of (View.on_stacks d w s))) (View.on_stacks d w s))
   pub kept : KeptBy x r.how r.depths w w'
 
 module _ {H : St.State → Type 0} {x : Running} {d : Depths} {w w' : List ℕ} {r : Stepped} where
   -- the program is p in every state
-  steps-as : (p : Program) → ((s : St.State) → H s → R.body (R.kind_of (View.onStacks d w s)) ≡ p) → Dispatches H x p d w r w' → Steps H x d w r w'
-  steps-as p f m = record {
-    goes = λ s h. subst (λ (q : Program). Tells r.how r.depths w' s (out q (View.onStacks d w s))) (sym (f s h)) (m.goes s h);
+  steps_as : (p : Program) → ((s : St.State) → H s → R.body (R.kind_of (View.on_stacks d w s)) ≡ p) → Dispatches H x p d w r w' → Steps H x d w r w'
+  steps_as p f m = record {
+    goes = λ s h. subst (λ (q : Program). Tells r.how r.depths w' s (out q (View.on_stacks d w s))) (sym (f s h)) (m.goes s h);
     kept = m.kept;
   }
 
   -- no frame stands
-  pub step-none : d.frames ≡ 0 → Meets Any I.Halt d w r w' → Steps H x d w r w'
-  step-none e m =
-      let fs : View.framesOf w d.frames d.ip ≡ [] = ap (λ (k : ℕ). View.framesOf w k d.ip) e ∙ ap (St.topAt d.ip) (stack-none (λ i. View.frame_at w (framesAt + 5 * i))) in
-      steps-as I.Halt (λ s h. ap (λ (y : List St.Frame). R.body (R.kindIn (View.onStacks d w s) y)) fs) (by-meets (λ s h. tt) m)
+  pub step_none : d.frames ≡ 0 → Meets Any I.Halt d w r w' → Steps H x d w r w'
+  step_none e m =
+      let fs : View.frames_of w d.frames d.ip ≡ [] = ap (λ (k : ℕ). View.frames_of w k d.ip) e ∙ ap (St.top_at d.ip) (stack_none (λ i. View.frame_at w (frames_at + 5 * i))) in
+      steps_as I.Halt (λ s h. ap (λ (y : List St.Frame). R.body (R.kind_in (View.on_stacks d w s) y)) fs) (by_meets (λ s h. tt) m)
 
 -- the newest frame's template
 module _ {x : Running} {d : Depths} {w : List ℕ} (q : Runs x d w) where
-  frames-are : View.framesOf w d.frames d.ip ≡ (St.setIp d.ip (View.frame_at w (framesAt + 5 * (d.frames - 1)))) ∷ View.rows_of w (d.frames - 1)
-  frames-are = ap (St.topAt d.ip) (stack-pop (λ i. View.frame_at w (framesAt + 5 * i)) d.frames q.stands)
+  frames_are : View.frames_of w d.frames d.ip ≡ (St.set_ip d.ip (View.frame_at w (frames_at + 5 * (d.frames - 1)))) ∷ View.rows_of w (d.frames - 1)
+  frames_are = ap (St.top_at d.ip) (stack_pop (λ i. View.frame_at w (frames_at + 5 * i)) d.frames q.stands)
 
-  size_is : {n : ℕ} {code : List ℕ} (s : St.State) → Coded x n code s → (St.running (View.onStacks d w s) (St.setIp d.ip (View.frame_at w (framesAt + 5 * (d.frames - 1))))).size ≡ x.shape.size
-  size_is s h = ap (λ (t : Im.Template). t.size) (sym (ap (I.current (View.onStacks d w s)) frames-are) ∙ current-is q s) ∙ h.size
+  size_is : {n : ℕ} {code : List ℕ} (s : St.State) → Coded x n code s → (St.running (View.on_stacks d w s) (St.set_ip d.ip (View.frame_at w (frames_at + 5 * (d.frames - 1))))).size ≡ x.shape.size
+  size_is s h = ap (λ (t : Im.Template). t.size) (sym (ap (I.current (View.on_stacks d w s)) frames_are) ∙ current_is q s) ∙ h.size
 
   abbrev chosen : St.State → Bool → Program
-  chosen s b = R.body (if b then R.begun (get_or s.code ((St.running (View.onStacks d w s) (St.setIp d.ip (View.frame_at w (framesAt + 5 * (d.frames - 1))))).at + d.ip) 0) else R.runOut)
+  chosen s b = R.body (if b then R.begun (get_or s.code ((St.running (View.on_stacks d w s) (St.set_ip d.ip (View.frame_at w (frames_at + 5 * (d.frames - 1))))).at + d.ip) 0) else R.run_out)
 
-  body_is : {n : ℕ} {code : List ℕ} (s : St.State) → Coded x n code s → R.body (R.kind_of (View.onStacks d w s)) ≡ chosen s (ltb d.ip x.shape.size)
+  body_is : {n : ℕ} {code : List ℕ} (s : St.State) → Coded x n code s → R.body (R.kind_of (View.on_stacks d w s)) ≡ chosen s (ltb d.ip x.shape.size)
   body_is s h =
-      ap (λ (y : List St.Frame). R.body (R.kindIn (View.onStacks d w s) y)) frames-are
+      ap (λ (y : List St.Frame). R.body (R.kind_in (View.on_stacks d w s) y)) frames_are
       ∙ ap (λ (z : ℕ). chosen s (ltb d.ip z)) (size_is s h)
 
-  pub body-out : {n : ℕ} {code : List ℕ} (s : St.State) → Coded x n code s → x.shape.size ≤ d.ip → R.body (R.kind_of (View.onStacks d w s)) ≡ make A.popFrame next
-  body-out s h g = body_is s h ∙ ap (chosen s) (le-ltb d.ip x.shape.size g)
+  pub body_out : {n : ℕ} {code : List ℕ} (s : St.State) → Coded x n code s → x.shape.size ≤ d.ip → R.body (R.kind_of (View.on_stacks d w s)) ≡ make A.pop_frame next
+  body_out s h g = body_is s h ∙ ap (chosen s) (le-ltb d.ip x.shape.size g)
 
-  pub body-go : {n : ℕ} {code : List ℕ} (s : St.State) → Coded x n code s → d.ip < x.shape.size → R.body (R.kind_of (View.onStacks d w s)) ≡ I.fetch I.instruction
-  body-go s h g = body_is s h ∙ ap (chosen s) (lt-ltb d.ip x.shape.size g)
+  pub body_go : {n : ℕ} {code : List ℕ} (s : St.State) → Coded x n code s → d.ip < x.shape.size → R.body (R.kind_of (View.on_stacks d w s)) ≡ I.fetch I.instruction
+  body_go s h g = body_is s h ∙ ap (chosen s) (lt-ltb d.ip x.shape.size g)
 
 module _ {H : St.State → Type 0} {x : Running} {n : ℕ} {code : List ℕ} {d : Depths} {w : List ℕ} {f : Fetched} (c : (s : St.State) → H s → Coded x n code s)
     (q : Runs x d w) (k : Fetches x n code d f) where
   -- the newest frame has run out
-  pub step-out : {e : Depths} {r : Stepped} → f ≡ Missing → View.PopsFrame d w e → r ≡ stepped e Went → Steps H x d w r w
-  step-out {e} {r} g p z =
+  pub step_out : {e : Depths} {r : Stepped} → f ≡ Missing → View.PopsFrame d w e → r ≡ stepped e Went → Steps H x d w r w
+  step_out {e} {r} g p z =
       let l : x.shape.size < d.ip + 1 = rw g at k.ready in
       subst (λ (y : Stepped). Steps H x d w y w) (sym z) (record {
-        goes = λ s h. ap (λ (b : Program). out b (View.onStacks d w s)) (body-out q s (c s h) (omega (arith, l)))
-            ∙ out-popFrame (View.onStacks d w s) next ∙ ap (out next) (sym (p.state s)) ∙ out-next (View.onStacks e w s);
+        goes = λ s h. ap (λ (b : Program). out b (View.on_stacks d w s)) (body_out q s (c s h) (omega (arith, l)))
+            ∙ out_pop_frame (View.on_stacks d w s) next ∙ ap (out next) (sym (p.state s)) ∙ out_next (View.on_stacks e w s);
         kept = tt;
       })
 
   -- an opcode is begun
-  pub step-go : {b : ℕ} {e : Depths} {r : Stepped} {w' : List ℕ} → f ≡ Got b e → Dispatches H x (I.instruction b) e w r w' → Steps H x d w r w'
-  step-go {b} {e} {r} {w'} g m =
+  pub step_go : {b : ℕ} {e : Depths} {r : Stepped} {w' : List ℕ} → f ≡ Got b e → Dispatches H x (I.instruction b) e w r w' → Steps H x d w r w'
+  step_go {b} {e} {r} {w'} g m =
       let l : d.ip + 1 ≤ x.shape.size = (got k g).2 in
       record {
         goes = λ s h. subst (Tells r.how r.depths w' s)
-            (sym (ap (λ (p : Program). out p (View.onStacks d w s)) (body-go q s (c s h) (omega (arith, l)))
-            ∙ k.goes w q s (c s h) I.instruction ∙ ap (λ (u : Fetched). fetchThen u I.instruction x d w s) g)) (m.goes s h);
+            (sym (ap (λ (p : Program). out p (View.on_stacks d w s)) (body_go q s (c s h) (omega (arith, l)))
+            ∙ k.goes w q s (c s h) I.instruction ∙ ap (λ (u : Fetched). fetch_then u I.instruction x d w s) g)) (m.goes s h);
         kept = m.kept;
       }

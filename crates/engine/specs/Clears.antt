@@ -5,43 +5,43 @@ use Rattle.std.proofs.lemmas.Bool.{false≢true}
 use Rattle.std.proofs.Math.Path.{refl}
 use Rattle.machine.specs.State as St
 use Rattle.value.specs.Lists.{stack_of, row_of}
-use Rattle.texts.specs.Keeps.{onText, onOutput}
+use Rattle.texts.specs.Keeps.{on_text, on_output}
 use Rattle.stacks.specs.View as Stacks
 use Rattle.heap.specs.View as Heap
 use Rattle.heap.specs.declared.Sizes.{Sizes}
-use Rattle.image.specs.View.{imagesOf}
-use Rattle.image.specs.Laws.{fresh-sound}
+use Rattle.image.specs.View.{images_of}
+use Rattle.image.specs.Laws.{fresh_sound}
 use Rattle.heapops.specs.declared.Counts.{Counts}
-use Rattle.heapops.specs.Turns.{Mem, mem, below, freshCounts}
+use Rattle.heapops.specs.Turns.{Mem, mem, below, fresh_counts}
 use Rattle.finish.specs.Parts.{Tables}
-use Rattle.run.specs.Runs.{groundOf, stateIn}
+use Rattle.run.specs.Runs.{ground_of, state_in}
 use Rattle.host.specs.declared.Changed.{Changed}
 use Rattle.host.specs.declared.Changed.TheVariants.{Done as Changed-as-Done, Refused as Changed-as-Refused}
-use Rattle.host.specs.Calls.{sizesRight, lent, stores_of, Clears}
+use Rattle.host.specs.Calls.{sizes_right, lent, stores_of, Clears}
 use Rattle.host.specs.Lent.{lengths, lent_by}
 
-abbrev is-done : Changed → Bool
-is-done (Changed-as-Done c) = true
-is-done (Changed-as-Refused n) = false
+abbrev is_done : Changed → Bool
+is_done (Changed-as-Done c) = true
+is_done (Changed-as-Refused n) = false
 
-cleared-not : (z : Counts) (n : ℕ) → Changed-as-Done z ≡ Changed-as-Refused n → ⊥
-cleared-not z n e = true≢false (ap is-done e)
+cleared_not : (z : Counts) (n : ℕ) → Changed-as-Done z ≡ Changed-as-Refused n → ⊥
+cleared_not z n e = true≢false (ap is_done e)
 
 module _ (g : Tables) (m : Mem) where
-  pub clear-refused : sizesRight g m ≡ false → Clears g m (Changed-as-Refused 33) g m
-  clear-refused e = record { told = (refl, refl, refl); asked = λ f. refl; granted = λ f n q. absurd (false≢true (sym e ∙ f)) }
+  pub clear_refused : sizes_right g m ≡ false → Clears g m (Changed-as-Refused 33) g m
+  clear_refused e = record { told = (refl, refl, refl); asked = λ f. refl; granted = λ f n q. absurd (false≢true (sym e ∙ f)) }
 
-  fresh-under : (w t o : List ℕ) (z : Sizes) → Stacks.onStacks (freshCounts z).depths w (Heap.freshHeap (below (freshCounts z) (mem w [] t o) (groundOf (freshCounts z) g))) ≡ St.fresh
-  unfolding row_of stack_of imagesOf
-  fresh-under w t o z = refl
+  fresh_under : (w t o : List ℕ) (z : Sizes) → Stacks.on_stacks (fresh_counts z).depths w (Heap.fresh_heap (below (fresh_counts z) (mem w [] t o) (ground_of (fresh_counts z) g))) ≡ St.fresh
+  unfolding row_of stack_of images_of
+  fresh_under w t o z = refl
 
-  pub clear-done : {z : Sizes} {c : Counts} {h : List ℕ} → sizesRight g m ≡ true → Heap.Clears z h → c ≡ freshCounts z → Clears g m (Changed-as-Done c) g (mem m.stacks h m.text m.output)
-  clear-done {z} {c} {h} e k q =
+  pub clear_done : {z : Sizes} {c : Counts} {h : List ℕ} → sizes_right g m ≡ true → Heap.Clears z h → c ≡ fresh_counts z → Clears g m (Changed-as-Done c) g (mem m.stacks h m.text m.output)
+  clear_done {z} {c} {h} e k q =
       let x = lengths g m e in let y = k.ready in
       let m' = mem m.stacks h m.text m.output in
-      let fresh : stateIn (freshCounts z) g m' ≡ St.fresh =
-      ap (λ (s : St.State). Stacks.onStacks (freshCounts z).depths m.stacks s) (k.state (onText 0 m.text (onOutput 0 m.output (groundOf (freshCounts z) g)))) ∙ fresh-under m.stacks m.text m.output z in
-      let right : lent (freshCounts z) g m' ≡ true = lent_by (freshCounts z) g m'
+      let fresh : state_in (fresh_counts z) g m' ≡ St.fresh =
+      ap (λ (s : St.State). Stacks.on_stacks (fresh_counts z).depths m.stacks s) (k.state (on_text 0 m.text (on_output 0 m.output (ground_of (fresh_counts z) g)))) ∙ fresh_under m.stacks m.text m.output z in
+      let right : lent (fresh_counts z) g m' ≡ true = lent_by (fresh_counts z) g m'
       (record { code = x.code; places = x.places; rows = x.rows; starts = x.starts; stacks = x.stacks; heap = y.size; text = x.text; output = x.output })
       (record {
         operands = omega arith;
@@ -58,7 +58,7 @@ module _ (g : Tables) (m : Mem) where
         output = omega arith;
       }) in
       subst (λ (y : Counts). Clears g m (Changed-as-Done y) g m') (sym q) (record {
-        told = (fresh, right, fresh-sound (stores_of g), record { place = λ f. refl });
+        told = (fresh, right, fresh_sound (stores_of g), record { place = λ f. refl });
         asked = λ f. absurd (false≢true (sym f ∙ e));
-        granted = λ f n q. cleared-not (freshCounts z) n q;
+        granted = λ f n q. cleared_not (fresh_counts z) n q;
       })

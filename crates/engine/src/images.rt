@@ -3,7 +3,7 @@ ghost use Rattle.std.specs.Prelude.{◌≡◌};
 ghost use Rattle.machine.specs.Host as Host;
 ghost use Rattle.heapops.specs.Turns.{mem};
 ghost use Rattle.finish.specs.Parts.{tables};
-ghost use Rattle.host.specs.Calls.{Called, answerOfNumbered, countsOfNumbered};
+ghost use Rattle.host.specs.Calls.{Called, answer_of_numbered, counts_of_numbered};
 ghost use Rattle.engine.specs.Registers.{added};
 
 use heap::Grown;
@@ -39,7 +39,7 @@ pub fn load(
     c: Counts,
     image: &[u8],
 ) -> Numbered
-    ensures { Called (Host.load image.now) c (tables code.old places.old rows.old starts.old) (mem stacks.now heap.now text.now output.now) (answerOfNumbered result) (countsOfNumbered c result) (tables code.new places.new rows.new starts.new) (mem stacks.now heap.now text.now output.now) }
+    ensures { Called (Host.load image.now) c (tables code.old places.old rows.old starts.old) (mem stacks.now heap.now text.now output.now) (answer_of_numbered result) (counts_of_numbered c result) (tables code.new places.new rows.new starts.new) (mem stacks.now heap.now text.now output.now) }
 {
     if lent(code, places, rows, starts, stacks, heap, text, output, c) {
         let held = ImageCounts {
@@ -74,7 +74,7 @@ pub fn register(
     image: usize,
     template: usize,
 ) -> Numbered
-    ensures { Called (Host.register image template) c (tables code.now places.now rows.now starts.now) (mem stacks.now heap.old text.now output.now) (answerOfNumbered result) (countsOfNumbered c result) (tables code.now places.now rows.now starts.now) (mem stacks.now heap.new text.now output.now) }
+    ensures { Called (Host.register image template) c (tables code.now places.now rows.now starts.now) (mem stacks.now heap.old text.now output.now) (answer_of_numbered result) (counts_of_numbered c result) (tables code.now places.now rows.now starts.now) (mem stacks.now heap.new text.now output.now) }
 {
     if lent(code, places, rows, starts, stacks, heap, text, output, c) {
         if c.images <= image {

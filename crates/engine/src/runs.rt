@@ -3,7 +3,7 @@ ghost use Rattle.std.specs.Prelude.{◌<◌};
 ghost use Rattle.machine.specs.Host as Host;
 ghost use Rattle.heapops.specs.Turns.{mem};
 ghost use Rattle.finish.specs.Parts.{tables};
-ghost use Rattle.host.specs.Calls.{Called, answerOfRun, countsOfRun};
+ghost use Rattle.host.specs.Calls.{Called, answer_of_run, counts_of_run};
 ghost use Rattle.host.specs.Lent.{Lent};
 
 use heapops::Counts;
@@ -25,7 +25,7 @@ fn start(
     image: usize,
 ) -> RunAnswer
     requires { Lent c (tables code.now places.now rows.now starts.now) (mem stacks.old heap.old text.old output.old) × (image < c.images) }
-    ensures { Called (Host.run image) c (tables code.now places.now rows.now starts.now) (mem stacks.old heap.old text.old output.old) (answerOfRun result) (countsOfRun c result) (tables code.now places.now rows.now starts.now) (mem stacks.new heap.new text.new output.new) }
+    ensures { Called (Host.run image) c (tables code.now places.now rows.now starts.now) (mem stacks.old heap.old text.old output.old) (answer_of_run result) (counts_of_run c result) (tables code.now places.now rows.now starts.now) (mem stacks.new heap.new text.new output.new) }
 {
     match stacks::push_frame(c.depths, stacks, image as u64, 0) {
         Made::Refused(q) => RunAnswer::Refused(run::question(q)),
@@ -51,7 +51,7 @@ pub fn run(
     c: Counts,
     image: usize,
 ) -> RunAnswer
-    ensures { Called (Host.run image) c (tables code.now places.now rows.now starts.now) (mem stacks.old heap.old text.old output.old) (answerOfRun result) (countsOfRun c result) (tables code.now places.now rows.now starts.now) (mem stacks.new heap.new text.new output.new) }
+    ensures { Called (Host.run image) c (tables code.now places.now rows.now starts.now) (mem stacks.old heap.old text.old output.old) (answer_of_run result) (counts_of_run c result) (tables code.now places.now rows.now starts.now) (mem stacks.new heap.new text.new output.new) }
 {
     if lent(code, places, rows, starts, stacks, heap, text, output, c) {
         if c.images <= image {

@@ -2,9 +2,9 @@
 #![tactic(auto)]
 
 ghost use Rattle.std.specs.Prelude.{◌≡◌, ℕ, ◌+◌, ◌-◌, ◌*◌, ◌≤◌, ◌<◌, max, length};
-ghost use Rattle.stacks.specs.Laws.{withIp};
+ghost use Rattle.stacks.specs.Laws.{with_ip};
 ghost use Rattle.stacks.specs.View.{Ready};
-ghost use Rattle.fetch.specs.Running.{byteIn, Fetches, FetchesWord, Known, Current, cut_of};
+ghost use Rattle.fetch.specs.Running.{byte_in, Fetches, FetchesWord, Known, Current, cut_of};
 
 use image::FunctionTemplate;
 use outcome::{Stepped, failed, with_ip};
@@ -74,7 +74,7 @@ fn wide(b: u8) -> usize
 // Byte at + p of the n that are loaded, or 0.
 pub fn byte_at(code: &[u8], n: usize, at: usize, p: usize) -> usize
     requires { n ≤ length code.now }
-    ensures { (result ≡ byteIn code.now n (at + p)) × (result < 256) }
+    ensures { (result ≡ byte_in code.now n (at + p)) × (result < 256) }
 {
     if n <= at {
         return 0;
@@ -113,7 +113,7 @@ pub fn fetch_word(x: Running, d: Depths, code: &[u8], n: usize) -> Fetched
 
 // The operand bytes that were there are read.
 pub fn past_end(x: Running, d: Depths) -> Depths
-    ensures { result ≡ withIp (max d.ip x.shape.size) d }
+    ensures { result ≡ with_ip (max d.ip x.shape.size) d }
 {
     with_ip(d, stacks::greater(d.ip, x.shape.size))
 }

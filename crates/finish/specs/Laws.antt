@@ -3,16 +3,16 @@ use Rattle.std.specs.Prelude.{ℕ, ◌+◌, ◌≤◌, List, [], ◌≡◌, refl
 use Rattle.std.proofs.Common.{sym, ap, subst, ◌∙◌}
 use Rattle.machine.specs.Image as Im
 use Rattle.machine.specs.State as St
-use Rattle.machine.specs.State.{operandLimit}
+use Rattle.machine.specs.State.{operand_limit}
 use Rattle.machine.specs.Program.{Program}
 use Rattle.machine.specs.Instruction as I
 use Rattle.machine.specs.Out.{Out, out}
 use Rattle.value.specs.Words.{value_of}
 use Rattle.value.specs.declared.Value.{Value}
 use Rattle.value.specs.declared.Space.{Space}
-use Rattle.texts.specs.Keeps.{textLimit}
+use Rattle.texts.specs.Keeps.{text_limit}
 use Rattle.texts.specs.Sources.{InUse}
-use Rattle.image.specs.Load.{templateFrom}
+use Rattle.image.specs.Load.{template_from}
 use Rattle.stacks.specs.View as Stacks
 use Rattle.stacks.specs.declared.Depths.{Depths}
 use Rattle.outcome.specs.Meets as Part
@@ -29,43 +29,43 @@ use Rattle.heapops.specs.declared.Counts.{Counts}
 use Rattle.heapops.specs.declared.How.{How}
 use Rattle.heapops.specs.declared.How.TheVariants.{Went as How-as-Went, Ended as How-as-Ended, Refused as How-as-Refused}
 use Rattle.heapops.specs.declared.Turned.{Turned}
-use Rattle.heapops.specs.Turns.{Mem, mem, below, state_of, withDepths, turned, Loaded, Tells, KeptOf, Turns}
-use Rattle.finish.specs.Parts.{partOut, told, Tables, Ground, Looks, LeftReady, MoreReady, LeftBy, steadyOf, withStacks, Completes, Finishes}
+use Rattle.heapops.specs.Turns.{Mem, mem, below, state_of, with_depths, turned, Loaded, Tells, KeptOf, Turns}
+use Rattle.finish.specs.Parts.{part_out, told, Tables, Ground, Looks, LeftReady, MoreReady, LeftBy, steady_of, with_stacks, Completes, Finishes}
 
 -- what the state holds
 module _ {x : Running} {c : Counts} {g : Tables} where
-  template-is : (s : St.State) → Ground x c g s → St.templateOf s x.image x.template ≡ templateFrom g.code g.places x.shape
-  template-is s h = ap (λ (i : List (List Im.Template)). get_or (get_or i x.image []) x.template St.noTemplate) h.images ∙ sym (h.known.shape g.code g.places)
+  template_is : (s : St.State) → Ground x c g s → St.template_of s x.image x.template ≡ template_from g.code g.places x.shape
+  template_is s h = ap (λ (i : List (List Im.Template)). get_or (get_or i x.image []) x.template St.no_template) h.images ∙ sym (h.known.shape g.code g.places)
 
-  pub to-coded : (s : St.State) → Ground x c g s → Coded x c.code g.code s
-  to-coded s h = record {
+  pub to_coded : (s : St.State) → Ground x c g s → Coded x c.code g.code s
+  to_coded s h = record {
     code = h.code;
-    at = ap (λ (t : Im.Template). t.at) (template-is s h);
-    size = ap (λ (t : Im.Template). t.size) (template-is s h);
+    at = ap (λ (t : Im.Template). t.at) (template_is s h);
+    size = ap (λ (t : Im.Template). t.size) (template_is s h);
   }
 
-  pub to-constants : (s : St.State) → Ground x c g s → Constants x c.code g.code g.places s
-  to-constants s h = record { coded = to-coded s h; pooled = record { constants = ap (λ (t : Im.Template). t.constants) (template-is s h) } }
+  pub to_constants : (s : St.State) → Ground x c g s → Constants x c.code g.code g.places s
+  to_constants s h = record { coded = to_coded s h; pooled = record { constants = ap (λ (t : Im.Template). t.constants) (template_is s h) } }
 
-  pub to-loaded : (s : St.State) → Ground x c g s → Loaded c.code g.code s
-  to-loaded s h = record { code = h.code }
+  pub to_loaded : (s : St.State) → Ground x c g s → Loaded c.code g.code s
+  to_loaded s h = record { code = h.code }
 
   module _ {h t : List ℕ} where
-    pub looks-constants : (s : St.State) → Looks x c g h t s → Constants x c.code g.code g.places s
-    looks-constants s l = to-constants s l.base
+    pub looks_constants : (s : St.State) → Looks x c g h t s → Constants x c.code g.code g.places s
+    looks_constants s l = to_constants s l.base
 
-    pub looks-objects : (s : St.State) → Looks x c g h t s → Objects c.code g.code c.text t c.sizes h s
-    looks-objects s l = record { texts = record { code = l.base.code; text = l.text }; objects = l.objects; properties = l.properties; globals = l.globals }
+    pub looks_objects : (s : St.State) → Looks x c g h t s → Objects c.code g.code c.text t c.sizes h s
+    looks_objects s l = record { texts = record { code = l.base.code; text = l.text }; objects = l.objects; properties = l.properties; globals = l.globals }
 
-    pub looks-named : (s : St.State) → Looks x c g h t s → Named x c.code g.code g.places c.text t c.sizes h s
-    looks-named s l = record { constants = looks-constants s l; objects = looks-objects s l }
+    pub looks_named : (s : St.State) → Looks x c g h t s → Named x c.code g.code g.places c.text t c.sizes h s
+    looks_named s l = record { constants = looks_constants s l; objects = looks_objects s l }
 
-    pub looks-callable : (s : St.State) → Looks x c g h t s → Callable x c.code g.code g.places g.rows g.starts c.images c.sizes h s
-    looks-callable s l = record { coded = to-coded s l.base; functions = l.functions; templates = record { held = l.base.images } }
+    pub looks_callable : (s : St.State) → Looks x c g h t s → Callable x c.code g.code g.places g.rows g.starts c.images c.sizes h s
+    looks_callable s l = record { coded = to_coded s l.base; functions = l.functions; templates = record { held = l.base.images } }
 
   -- under the stores
-  pub looks-below : (m : Mem) (s : St.State) → Ground x c g s → Looks x c g m.heap m.text (below c m s)
-  looks-below m s h = record {
+  pub looks_below : (m : Mem) (s : St.State) → Ground x c g s → Looks x c g m.heap m.text (below c m s)
+  looks_below m s h = record {
     base = record { code = h.code; images = h.images; known = h.known };
     text = refl;
     functions = refl;
@@ -75,74 +75,74 @@ module _ {x : Running} {c : Counts} {g : Tables} where
   }
 
 -- the words of the code and the text
-pub in_use : {c : List ℕ} {n : ℕ} {t : List ℕ} {m : ℕ} → n ≤ length c → (m ≤ textLimit) × (length t ≡ textLimit) → InUse c n t m
+pub in_use : {c : List ℕ} {n : ℕ} {t : List ℕ} {m : ℕ} → n ≤ length c → (m ≤ text_limit) × (length t ≡ text_limit) → InUse c n t m
 in_use {c} {n} {t} {m} a b = record { code = a; text = subst (λ (k : ℕ). m ≤ k) (sym b.1) b.0 }
 
 -- what the answer leaves ready
 module _ {h : Part} {d : Depths} {w : List ℕ} where
-  pub ready-register : {i t : ℕ} → h ≡ Register i t → LeftReady h d w → Stacks.Ready d w
-  ready-register g l = subst (λ (p : Part). LeftReady p d w) g l
+  pub ready_register : {i t : ℕ} → h ≡ Register i t → LeftReady h d w → Stacks.Ready d w
+  ready_register g l = subst (λ (p : Part). LeftReady p d w) g l
 
-  pub ready-join : {a b : Value} → h ≡ Join a b → LeftReady h d w → Stacks.Ready d w
-  ready-join g l = subst (λ (p : Part). LeftReady p d w) g l
+  pub ready_join : {a b : Value} → h ≡ Join a b → LeftReady h d w → Stacks.Ready d w
+  ready_join g l = subst (λ (p : Part). LeftReady p d w) g l
 
-  pub ready-print : {k : ℕ} → h ≡ Print k → LeftReady h d w → Stacks.Ready d w × (d.operands + 1 + k ≤ operandLimit)
-  ready-print g l = subst (λ (p : Part). LeftReady p d w) g l
+  pub ready_print : {k : ℕ} → h ≡ Print k → LeftReady h d w → Stacks.Ready d w × (d.operands + 1 + k ≤ operand_limit)
+  ready_print g l = subst (λ (p : Part). LeftReady p d w) g l
 
-  pub ready-more : {x : Running} {b : ℕ} → h ≡ More b → LeftBy x h d w → MoreReady b x d w
-  ready-more {x} g l = subst (λ (p : Part). LeftBy x p d w) g l
+  pub ready_more : {x : Running} {b : ℕ} → h ≡ More b → LeftBy x h d w → MoreReady b x d w
+  ready_more {x} g l = subst (λ (p : Part). LeftBy x p d w) g l
 
-pub left-of : (h : Part) (d : Depths) (w w' : List ℕ) → Part.KeptOf h d w w' → LeftReady h d w'
-left-of Went d w w' k = tt
-left-of (Ended e) d w w' k = tt
-left-of (Refused q) d w w' k = tt
-left-of (Register i t) d w w' k = subst (Stacks.Ready d) (sym k.0) k.1
-left-of (Join a b) d w w' k = subst (Stacks.Ready d) (sym k.0) k.1
-left-of (Print n) d w w' k = (subst (Stacks.Ready d) (sym k.0) k.1, k.2)
-left-of (More b) d w w' k = k
+pub left_of : (h : Part) (d : Depths) (w w' : List ℕ) → Part.KeptOf h d w w' → LeftReady h d w'
+left_of Went d w w' k = tt
+left_of (Ended e) d w w' k = tt
+left_of (Refused q) d w w' k = tt
+left_of (Register i t) d w w' k = subst (Stacks.Ready d) (sym k.0) k.1
+left_of (Join a b) d w w' k = subst (Stacks.Ready d) (sym k.0) k.1
+left_of (Print n) d w w' k = (subst (Stacks.Ready d) (sym k.0) k.1, k.2)
+left_of (More b) d w w' k = k
 
 -- whatever the depths were, and under the stacks from before
-kept-as : (h : How) (c : Counts) (d : Depths) (m m' : Mem) → KeptOf h (withDepths d c) m m' → KeptOf h c m m'
-kept-as How-as-Went c d m m' k = k
-kept-as (How-as-Ended e) c d m m' k = k
-kept-as (How-as-Refused q) c d m m' k = k
+kept_as : (h : How) (c : Counts) (d : Depths) (m m' : Mem) → KeptOf h (with_depths d c) m m' → KeptOf h c m m'
+kept_as How-as-Went c d m m' k = k
+kept_as (How-as-Ended e) c d m m' k = k
+kept_as (How-as-Refused q) c d m m' k = k
 
-kept_under : (h : How) (c : Counts) (d : Depths) (m m' : Mem) (w : List ℕ) → m.stacks ≡ w → KeptOf h (withDepths d c) m m' → KeptOf h c (withStacks w m) m'
-kept_under h c d m m' w e k = subst (λ (u : List ℕ). KeptOf h c (withStacks u m) m') e (kept-as h c d m m' k)
+kept_under : (h : How) (c : Counts) (d : Depths) (m m' : Mem) (w : List ℕ) → m.stacks ≡ w → KeptOf h (with_depths d c) m m' → KeptOf h c (with_stacks w m) m'
+kept_under h c d m m' w e k = subst (λ (u : List ℕ). KeptOf h c (with_stacks u m) m') e (kept_as h c d m m' k)
 
 -- Completes, for a part and its depths
 record Done (H : St.State → Type 0) (c : Counts) (m : Mem) (h : Part) (d : Depths) (t : Turned) (m' : Mem) : Type 0 where
-  goes : (s : St.State) → H s → Tells t.how t.counts m' s (partOut h d m.stacks (below c m s))
-  kept : (w : List ℕ) → Part.KeptOf h d w m.stacks → KeptOf t.how c (withStacks w m) m'
+  goes : (s : St.State) → H s → Tells t.how t.counts m' s (part_out h d m.stacks (below c m s))
+  kept : (w : List ℕ) → Part.KeptOf h d w m.stacks → KeptOf t.how c (with_stacks w m) m'
 
 module _ {H : St.State → Type 0} {c : Counts} {r : Stepped} where
-  as-part : {m m' : Mem} {h : Part} {t : Turned} → r.how ≡ h → Done H c m h r.depths t m' → Completes H c m r t m'
-  as-part {m} {m'} {h} {t} e a =
+  as_part : {m m' : Mem} {h : Part} {t : Turned} → r.how ≡ h → Done H c m h r.depths t m' → Completes H c m r t m'
+  as_part {m} {m'} {h} {t} e a =
       let b : Done H c m r.how r.depths t m' = subst (λ (p : Part). Done H c m p r.depths t m') (sym e) a in
       record { goes = b.goes; kept = b.kept }
 
   -- the arms of `complete`
-  pub done-went : {m : Mem} {t : Turned} → r.how ≡ Went → t ≡ turned (withDepths r.depths c) How-as-Went → Completes H c m r t m
-  done-went {m} e f = subst (λ (t : Turned). Completes H c m r t m) (sym f) (as-part e (record { goes = λ s i. refl; kept = λ w k. tt }))
+  pub done_went : {m : Mem} {t : Turned} → r.how ≡ Went → t ≡ turned (with_depths r.depths c) How-as-Went → Completes H c m r t m
+  done_went {m} e f = subst (λ (t : Turned). Completes H c m r t m) (sym f) (as_part e (record { goes = λ s i. refl; kept = λ w k. tt }))
 
-  pub done-ended : {m : Mem} {q : End} → r.how ≡ Ended q → Completes H c m r (turned (withDepths r.depths c) (How-as-Ended q)) m
-  done-ended {m} e = as-part e (record { goes = λ s i. refl; kept = λ w k. tt })
+  pub done_ended : {m : Mem} {q : End} → r.how ≡ Ended q → Completes H c m r (turned (with_depths r.depths c) (How-as-Ended q)) m
+  done_ended {m} e = as_part e (record { goes = λ s i. refl; kept = λ w k. tt })
 
-  pub done_refused : {m : Mem} {q : Space} {t : Turned} → r.how ≡ Refused q → t ≡ turned (withDepths r.depths c) (How-as-Refused q) → Completes H c m r t m
-  done_refused {m} e f = subst (λ (t : Turned). Completes H c m r t m) (sym f) (as-part e (record {
+  pub done_refused : {m : Mem} {q : Space} {t : Turned} → r.how ≡ Refused q → t ≡ turned (with_depths r.depths c) (How-as-Refused q) → Completes H c m r t m
+  done_refused {m} e f = subst (λ (t : Turned). Completes H c m r t m) (sym f) (as_part e (record {
     goes = λ s i. refl;
-    kept = λ w k d s. ap (λ (u : List ℕ). state_of (withDepths d c) (withStacks u m) s) k;
+    kept = λ w k d s. ap (λ (u : List ℕ). state_of (with_depths d c) (with_stacks u m) s) k;
   }))
 
-  pub done-register : {m m' : Mem} {t : Turned} {i j : ℕ} → r.how ≡ Register i j → Turns Any (registers i j) (withDepths r.depths c) m t m' → Completes H c m r t m'
-  done-register {m} {m'} {t} e a = as-part e (record { goes = λ s h. a.goes s tt; kept = λ w k. kept_under t.how c r.depths m m' w k.0 a.kept })
+  pub done_register : {m m' : Mem} {t : Turned} {i j : ℕ} → r.how ≡ Register i j → Turns Any (registers i j) (with_depths r.depths c) m t m' → Completes H c m r t m'
+  done_register {m} {m'} {t} e a = as_part e (record { goes = λ s h. a.goes s tt; kept = λ w k. kept_under t.how c r.depths m m' w k.0 a.kept })
 
-  pub done-join : {m m' : Mem} {t : Turned} {v u : Value} → r.how ≡ Join v u → Turns H (joins (value_of v) (value_of u)) (withDepths r.depths c) m t m' → Completes H c m r t m'
-  done-join {m} {m'} {t} e a = as-part e (record { goes = a.goes; kept = λ w k. kept_under t.how c r.depths m m' w k.0 a.kept })
+  pub done_join : {m m' : Mem} {t : Turned} {v u : Value} → r.how ≡ Join v u → Turns H (joins (value_of v) (value_of u)) (with_depths r.depths c) m t m' → Completes H c m r t m'
+  done_join {m} {m'} {t} e a = as_part e (record { goes = a.goes; kept = λ w k. kept_under t.how c r.depths m m' w k.0 a.kept })
 
-  pub done-print : {m m' : Mem} {t : Turned} {n : ℕ} → r.how ≡ Print n
-      → Turns H (prints (Stacks.arguments m.stacks (r.depths.operands + 1) n)) (withDepths r.depths c) m t m' → Completes H c m r t m'
-  done-print {m} {m'} {t} e a = as-part e (record { goes = a.goes; kept = λ w k. kept_under t.how c r.depths m m' w k.0 a.kept })
+  pub done_print : {m m' : Mem} {t : Turned} {n : ℕ} → r.how ≡ Print n
+      → Turns H (prints (Stacks.arguments m.stacks (r.depths.operands + 1) n)) (with_depths r.depths c) m t m' → Completes H c m r t m'
+  done_print {m} {m'} {t} e a = as_part e (record { goes = a.goes; kept = λ w k. kept_under t.how c r.depths m m' w k.0 a.kept })
 
   -- none is left whole
   pub done_more : {m m' : Mem} {t : Turned} {b : ℕ} → r.how ≡ More b → LeftReady r.how r.depths m.stacks → Completes H c m r t m'
@@ -159,51 +159,51 @@ by_part {H} {K} {L} {p} {c} {w} {h} {t} {o} {r} {w'} {x} {m'} a f g b = record {
 }
 
 -- The code and the images stay.
-tells-steady : (h : How) (c k : Counts) (m : Mem) (s : St.State) (o : Out) → Tells h k m s o → Tells h (steadyOf c (turned k h)).counts m s o
-tells-steady How-as-Went c k m s o e = e
-tells-steady (How-as-Ended q) c k m s o e = e
-tells-steady (How-as-Refused q) c k m s o e = e
+tells_steady : (h : How) (c k : Counts) (m : Mem) (s : St.State) (o : Out) → Tells h k m s o → Tells h (steady_of c (turned k h)).counts m s o
+tells_steady How-as-Went c k m s o e = e
+tells_steady (How-as-Ended q) c k m s o e = e
+tells_steady (How-as-Refused q) c k m s o e = e
 
 -- a part that is not the whole
 abbrev pub Rest : Part → Type 0
 Rest h = (b : ℕ) → h ≡ More b → ⊥
 
-pub left-rest : (x : Running) (h : Part) (d : Depths) (w : List ℕ) → Rest h → LeftBy x h d w → LeftReady h d w
-left-rest x Went d w n l = l
-left-rest x (Ended e) d w n l = l
-left-rest x (Refused q) d w n l = l
-left-rest x (Register i t) d w n l = l
-left-rest x (Join a b) d w n l = l
-left-rest x (Print k) d w n l = l
-left-rest x (More b) d w n l = n b refl
+pub left_rest : (x : Running) (h : Part) (d : Depths) (w : List ℕ) → Rest h → LeftBy x h d w → LeftReady h d w
+left_rest x Went d w n l = l
+left_rest x (Ended e) d w n l = l
+left_rest x (Refused q) d w n l = l
+left_rest x (Register i t) d w n l = l
+left_rest x (Join a b) d w n l = l
+left_rest x (Print k) d w n l = l
+left_rest x (More b) d w n l = n b refl
 
-kept-rest : (x : Running) (h : Part) (d : Depths) (w w' : List ℕ) → Rest h → KeptBy x h d w w' → Part.KeptOf h d w w'
-kept-rest x Went d w w' n l = l
-kept-rest x (Ended e) d w w' n l = l
-kept-rest x (Refused q) d w w' n l = l
-kept-rest x (Register i t) d w w' n l = l
-kept-rest x (Join a b) d w w' n l = l
-kept-rest x (Print k) d w w' n l = l
-kept-rest x (More b) d w w' n l = absurd (n b refl)
+kept_rest : (x : Running) (h : Part) (d : Depths) (w w' : List ℕ) → Rest h → KeptBy x h d w w' → Part.KeptOf h d w w'
+kept_rest x Went d w w' n l = l
+kept_rest x (Ended e) d w w' n l = l
+kept_rest x (Refused q) d w w' n l = l
+kept_rest x (Register i t) d w w' n l = l
+kept_rest x (Join a b) d w w' n l = l
+kept_rest x (Print k) d w w' n l = l
+kept_rest x (More b) d w w' n l = absurd (n b refl)
 
 module _ {x : Running} {c : Counts} {g : Tables} {m m' : Mem} {t : Turned} where
-  pub finish-rest : {r : Stepped} {u : Turned} → Rest r.how → Completes (Loaded c.code g.code) c m r t m' → u ≡ steadyOf c t → Finishes (Ground x c g) x c m r u m'
-  finish-rest {r} n a e = subst (λ (y : Turned). Finishes (Ground x c g) x c m r y m') (sym e) (record {
-    goes = λ s h. tells-steady t.how c t.counts m' s (partOut r.how r.depths m.stacks (below c m s)) (a.goes s (to-loaded s h));
-    kept = λ w k. a.kept w (kept-rest x r.how r.depths w m.stacks n k);
+  pub finish_rest : {r : Stepped} {u : Turned} → Rest r.how → Completes (Loaded c.code g.code) c m r t m' → u ≡ steady_of c t → Finishes (Ground x c g) x c m r u m'
+  finish_rest {r} n a e = subst (λ (y : Turned). Finishes (Ground x c g) x c m r y m') (sym e) (record {
+    goes = λ s h. tells_steady t.how c t.counts m' s (part_out r.how r.depths m.stacks (below c m s)) (a.goes s (to_loaded s h));
+    kept = λ w k. a.kept w (kept_rest x r.how r.depths w m.stacks n k);
     steady = (refl, refl);
   })
 
-  whole : {b : ℕ} {d : Depths} → Turns (Ground x (withDepths d c) g) (I.instruction b) (withDepths d c) m t m' → Finishes (Ground x c g) x c m (stepped d (More b)) (steadyOf c t) m'
+  whole : {b : ℕ} {d : Depths} → Turns (Ground x (with_depths d c) g) (I.instruction b) (with_depths d c) m t m' → Finishes (Ground x c g) x c m (stepped d (More b)) (steady_of c t) m'
   whole {b} {d} a = record {
-    goes = λ s h. tells-steady t.how c t.counts m' s (out (I.instruction b) (Stacks.onStacks d m.stacks (below c m s)))
+    goes = λ s h. tells_steady t.how c t.counts m' s (out (I.instruction b) (Stacks.on_stacks d m.stacks (below c m s)))
         (a.goes s (record { code = h.code; images = h.images; known = h.known }));
     kept = λ w k. kept_under t.how c d m m' w k.0 a.kept;
     steady = (refl, refl);
   }
 
-  pub finish-more : {r : Stepped} {u : Turned} {b : ℕ} → r.how ≡ More b → Turns (Ground x (withDepths r.depths c) g) (I.instruction b) (withDepths r.depths c) m t m' → u ≡ steadyOf c t
+  pub finish_more : {r : Stepped} {u : Turned} {b : ℕ} → r.how ≡ More b → Turns (Ground x (with_depths r.depths c) g) (I.instruction b) (with_depths r.depths c) m t m' → u ≡ steady_of c t
       → Finishes (Ground x c g) x c m r u m'
-  finish-more {r} f a e =
+  finish_more {r} f a e =
       subst (λ (y : Turned). Finishes (Ground x c g) x c m r y m') (sym e)
-      (subst (λ (h : Part). Finishes (Ground x c g) x c m (stepped r.depths h) (steadyOf c t) m') (sym f) (whole a))
+      (subst (λ (h : Part). Finishes (Ground x c g) x c m (stepped r.depths h) (steady_of c t) m') (sym f) (whole a))

@@ -1,7 +1,7 @@
 -- What an instruction leaves to do with the other stores. Assumes nothing.
 use Rattle.std.specs.Prelude.{ℕ, ◌+◌, ◌≤◌, ◌<◌, List, [], ◌∷◌, ◌≡◌}
 use Rattle.machine.specs.State as St
-use Rattle.machine.specs.State.{operandLimit}
+use Rattle.machine.specs.State.{operand_limit}
 use Rattle.machine.specs.Instruction as I
 use Rattle.machine.specs.Out.{Out, went, ended, refused, out}
 use Rattle.value.specs.Errors.{space_of}
@@ -9,8 +9,8 @@ use Rattle.value.specs.Lists.{bytes_of}
 use Rattle.value.specs.Words.{value_of}
 use Rattle.stacks.specs.View as Stacks
 use Rattle.stacks.specs.declared.Depths.{Depths}
-use Rattle.image.specs.View.{imagesOf}
-use Rattle.heap.specs.View.{functionsOf, objectsOf, propertiesOf, globals_of}
+use Rattle.image.specs.View.{images_of}
+use Rattle.heap.specs.View.{functions_of, objects_of, properties_of, globals_of}
 use Rattle.outcome.specs.Meets.{end_of, registers, joins, prints}
 use Rattle.outcome.specs.Meets as Part
 use Rattle.outcome.specs.declared.Part.{Part}
@@ -24,16 +24,16 @@ use Rattle.heapops.specs.declared.Turned.{Turned}
 use Rattle.heapops.specs.Turns.{Mem, mem, below, Tells, KeptOf}
 
 -- what an answer about the stacks says of an outcome, as an equation
-abbrev pub partOut : Part → Depths → List ℕ → St.State → Out
-partOut Went d w s = went (Stacks.onStacks d w s)
-partOut (Ended e) d w s = ended (end_of e) (Stacks.onStacks d w s)
-partOut (Refused q) d w s = refused (space_of q)
-partOut (Register i t) d w s = out (registers i t) (Stacks.onStacks d w s)
-partOut (Join a b) d w s = out (joins (value_of a) (value_of b)) (Stacks.onStacks d w s)
-partOut (Print k) d w s = out (prints (Stacks.arguments w (d.operands + 1) k)) (Stacks.onStacks d w s)
-partOut (More b) d w s = out (I.instruction b) (Stacks.onStacks d w s)
+abbrev pub part_out : Part → Depths → List ℕ → St.State → Out
+part_out Went d w s = went (Stacks.on_stacks d w s)
+part_out (Ended e) d w s = ended (end_of e) (Stacks.on_stacks d w s)
+part_out (Refused q) d w s = refused (space_of q)
+part_out (Register i t) d w s = out (registers i t) (Stacks.on_stacks d w s)
+part_out (Join a b) d w s = out (joins (value_of a) (value_of b)) (Stacks.on_stacks d w s)
+part_out (Print k) d w s = out (prints (Stacks.arguments w (d.operands + 1) k)) (Stacks.on_stacks d w s)
+part_out (More b) d w s = out (I.instruction b) (Stacks.on_stacks d w s)
 
-pub told : (h : Part) (d : Depths) (w : List ℕ) (s : St.State) (o : Out) → Part.Tells h d w s o → o ≡ partOut h d w s
+pub told : (h : Part) (d : Depths) (w : List ℕ) (s : St.State) (o : Out) → Part.Tells h d w s o → o ≡ part_out h d w s
 told Went d w s o e = e
 told (Ended q) d w s o e = e
 told (Refused q) d w s o e = e
@@ -55,16 +55,16 @@ tables c p r s = record { code = c; places = p; rows = r; starts = s }
 -- The state s has the code and the images that the stores hold, and in these images the template that is kept as running.
 pub record Ground (x : Running) (c : Counts) (g : Tables) (s : St.State) : Type 0 where
   pub code : s.code ≡ bytes_of g.code c.code
-  pub images : s.images ≡ imagesOf g.code g.places g.rows g.starts c.images
+  pub images : s.images ≡ images_of g.code g.places g.rows g.starts c.images
   pub known : Known g.rows g.starts c.images x
 
 -- and the heap and the text
 pub record Looks (x : Running) (c : Counts) (g : Tables) (h t : List ℕ) (s : St.State) : Type 0 where
   pub base : Ground x c g s
   pub text : s.text ≡ bytes_of t c.text
-  pub functions : s.functions ≡ functionsOf h c.sizes.functions
-  pub objects : s.objects ≡ objectsOf h c.sizes.objects
-  pub properties : s.properties ≡ propertiesOf h c.sizes.properties
+  pub functions : s.functions ≡ functions_of h c.sizes.functions
+  pub objects : s.objects ≡ objects_of h c.sizes.objects
+  pub properties : s.properties ≡ properties_of h c.sizes.properties
   pub globals : s.globals ≡ globals_of h c.sizes.globals
 
 -- what an answer about the stacks leaves ready for the rest
@@ -74,7 +74,7 @@ LeftReady (Ended e) d w = Unit {0}
 LeftReady (Refused q) d w = Unit {0}
 LeftReady (Register i t) d w = Stacks.Ready d w
 LeftReady (Join a b) d w = Stacks.Ready d w
-LeftReady (Print k) d w = Stacks.Ready d w × (d.operands + 1 + k ≤ operandLimit)
+LeftReady (Print k) d w = Stacks.Ready d w × (d.operands + 1 + k ≤ operand_limit)
 LeftReady (More b) d w = ⊥
 
 pub record MoreReady (b : ℕ) (x : Running) (d : Depths) (w : List ℕ) : Type 0 where
@@ -99,20 +99,20 @@ LeftBy x (Join a b) d w = LeftReady (Join a b) d w
 LeftBy x (Print k) d w = LeftReady (Print k) d w
 LeftBy x (More b) d w = MoreReady b x d w
 
-abbrev pub steadyOf : Counts → Turned → Turned
-steadyOf c t = record { counts = record { depths = t.counts.depths; sizes = t.counts.sizes; code = c.code; images = c.images; text = t.counts.text; output = t.counts.output }; how = t.how }
+abbrev pub steady_of : Counts → Turned → Turned
+steady_of c t = record { counts = record { depths = t.counts.depths; sizes = t.counts.sizes; code = c.code; images = c.images; text = t.counts.text; output = t.counts.output }; how = t.how }
 
 -- the stores with other stacks
-abbrev pub withStacks : List ℕ → Mem → Mem
-withStacks w m = mem w m.heap m.text m.output
+abbrev pub with_stacks : List ℕ → Mem → Mem
+with_stacks w m = mem w m.heap m.text m.output
 
 -- THE CONTRACT of what is left to do: over every such state, it comes to what the answer says. A refusal leaves the state, also that from before the
 -- instruction began on the stacks, whose words were w.
 pub record Completes (H : St.State → Type 0) (c : Counts) (m : Mem) (r : Stepped) (t : Turned) (m' : Mem) : Type 0 where
-  pub goes : (s : St.State) → H s → Tells t.how t.counts m' s (partOut r.how r.depths m.stacks (below c m s))
-  pub kept : (w : List ℕ) → Part.KeptOf r.how r.depths w m.stacks → KeptOf t.how c (withStacks w m) m'
+  pub goes : (s : St.State) → H s → Tells t.how t.counts m' s (part_out r.how r.depths m.stacks (below c m s))
+  pub kept : (w : List ℕ) → Part.KeptOf r.how r.depths w m.stacks → KeptOf t.how c (with_stacks w m) m'
 
 pub record Finishes (H : St.State → Type 0) (x : Running) (c : Counts) (m : Mem) (r : Stepped) (t : Turned) (m' : Mem) : Type 0 where
-  pub goes : (s : St.State) → H s → Tells t.how t.counts m' s (partOut r.how r.depths m.stacks (below c m s))
-  pub kept : (w : List ℕ) → KeptBy x r.how r.depths w m.stacks → KeptOf t.how c (withStacks w m) m'
+  pub goes : (s : St.State) → H s → Tells t.how t.counts m' s (part_out r.how r.depths m.stacks (below c m s))
+  pub kept : (w : List ℕ) → KeptBy x r.how r.depths w m.stacks → KeptOf t.how c (with_stacks w m) m'
   pub steady : (t.counts.code ≡ c.code) × (t.counts.images ≡ c.images)

@@ -3,13 +3,13 @@
 
 ghost use Rattle.std.specs.Prelude.{◌≡◌, ◌≤◌, length};
 ghost use Rattle.machine.specs.Instruction.{instruction};
-ghost use Rattle.texts.specs.Keeps.{textLimit, outputLimit};
+ghost use Rattle.texts.specs.Keeps.{text_limit, output_limit};
 ghost use Rattle.texts.specs.Sources.{InUse};
 ghost use Rattle.outcome.specs.Meets.{Meets};
 ghost use Rattle.heap.specs.View.{Sized};
 ghost use Rattle.dispatch.specs.Dispatch.{NoneOf};
 ghost use Rattle.heapops.specs.Turns.{Turns, mem, Loaded};
-ghost use Rattle.finish.specs.Parts.{Completes, Finishes, Ground, LeftReady, LeftBy, MoreReady, Looks, changing, tables, steadyOf};
+ghost use Rattle.finish.specs.Parts.{Completes, Finishes, Ground, LeftReady, LeftBy, MoreReady, Looks, changing, tables, steady_of};
 
 use fetch::Running;
 use heapops::{Counts, How, Turned, create, joining, print, stores};
@@ -19,7 +19,7 @@ use value::JsVmError;
 
 // Whatever an instruction does, the code and the images stay.
 fn steady(c: Counts, t: Turned) -> Turned
-    ensures { result ≡ steadyOf c t }
+    ensures { result ≡ steady_of c t }
 {
     let how = t.how;
     let mut e = t.counts;
@@ -40,8 +40,8 @@ pub fn complete(
     requires left_ready { LeftReady r.how r.depths stacks.old }
     requires code_in_bounds { c.code ≤ length code.now }
     requires sized { Sized c.sizes heap.old }
-    requires text_le_text_limit { (c.text ≤ textLimit) × (length text.old ≡ textLimit) }
-    requires output_le_output_limit { (c.output ≤ outputLimit) × (length output.old ≡ outputLimit) }
+    requires text_le_text_limit { (c.text ≤ text_limit) × (length text.old ≡ text_limit) }
+    requires output_le_output_limit { (c.output ≤ output_limit) × (length output.old ≡ output_limit) }
     ensures { Completes (Loaded c.code code.now) c (mem stacks.old heap.old text.old output.old) r result (mem stacks.new heap.new text.new output.new) }
 {
     let how = r.how;
@@ -115,8 +115,8 @@ pub fn execute_more(
     requires more_ready { MoreReady op x c.depths stacks.old }
     requires code_in_bounds { c.code ≤ length code.now }
     requires sized { Sized c.sizes heap.old }
-    requires text_le_text_limit { (c.text ≤ textLimit) × (length text.old ≡ textLimit) }
-    requires output_le_output_limit { (c.output ≤ outputLimit) × (length output.old ≡ outputLimit) }
+    requires text_le_text_limit { (c.text ≤ text_limit) × (length text.old ≡ text_limit) }
+    requires output_le_output_limit { (c.output ≤ output_limit) × (length output.old ≡ output_limit) }
     ensures { Turns (Ground x c (tables code.now places.now rows.now starts.now)) (instruction op) c (mem stacks.old heap.old text.old output.old) result (mem stacks.new heap.new text.new output.new) }
 {
     match op {
@@ -150,8 +150,8 @@ pub fn finish(
     requires left_by { LeftBy x r.how r.depths stacks.old }
     requires code_in_bounds { c.code ≤ length code.now }
     requires sized { Sized c.sizes heap.old }
-    requires text_le_text_limit { (c.text ≤ textLimit) × (length text.old ≡ textLimit) }
-    requires output_le_output_limit { (c.output ≤ outputLimit) × (length output.old ≡ outputLimit) }
+    requires text_le_text_limit { (c.text ≤ text_limit) × (length text.old ≡ text_limit) }
+    requires output_le_output_limit { (c.output ≤ output_limit) × (length output.old ≡ output_limit) }
     ensures { Finishes (Ground x c (tables code.now places.now rows.now starts.now)) x c (mem stacks.old heap.old text.old output.old) r result (mem stacks.new heap.new text.new output.new) }
 {
     let how = r.how;

@@ -2,12 +2,12 @@
 #![tactic(auto)]
 
 ghost use Rattle.std.specs.Prelude.{◌≡◌};
-ghost use Rattle.machine.specs.Act.{plain, asBytes};
+ghost use Rattle.machine.specs.Act.{plain, as_bytes};
 ghost use Rattle.machine.specs.Host as Host;
 ghost use Rattle.value.specs.Words.{value_of};
 ghost use Rattle.heapops.specs.Turns.{mem};
 ghost use Rattle.finish.specs.Parts.{tables};
-ghost use Rattle.host.specs.Calls.{Called, answerOfChanged, countsOfChanged, answerOfRead};
+ghost use Rattle.host.specs.Calls.{Called, answer_of_changed, counts_of_changed, answer_of_read};
 ghost use Rattle.globals.specs.Globals.{settled};
 
 use heapops::Counts;
@@ -45,7 +45,7 @@ pub fn set_global(
     name: &[u8],
     v: Value,
 ) -> Changed
-    ensures { Called (Host.setGlobal name.now (plain (value_of v))) c (tables code.now places.now rows.now starts.now) (mem stacks.now heap.old text.old output.now) (answerOfChanged result) (countsOfChanged c result) (tables code.now places.now rows.now starts.now) (mem stacks.now heap.new text.new output.now) }
+    ensures { Called (Host.set_global name.now (plain (value_of v))) c (tables code.now places.now rows.now starts.now) (mem stacks.now heap.old text.old output.now) (answer_of_changed result) (counts_of_changed c result) (tables code.now places.now rows.now starts.now) (mem stacks.now heap.new text.new output.now) }
 {
     if lent(code, places, rows, starts, stacks, heap, text, output, c) {
         if is_ascii(name) {
@@ -76,7 +76,7 @@ pub fn set_global_text(
     name: &[u8],
     given: &[u8],
 ) -> Changed
-    ensures { Called (Host.setGlobal name.now (asBytes given.now)) c (tables code.now places.now rows.now starts.now) (mem stacks.now heap.old text.old output.now) (answerOfChanged result) (countsOfChanged c result) (tables code.now places.now rows.now starts.now) (mem stacks.now heap.new text.new output.now) }
+    ensures { Called (Host.set_global name.now (as_bytes given.now)) c (tables code.now places.now rows.now starts.now) (mem stacks.now heap.old text.old output.now) (answer_of_changed result) (counts_of_changed c result) (tables code.now places.now rows.now starts.now) (mem stacks.now heap.new text.new output.now) }
 {
     if lent(code, places, rows, starts, stacks, heap, text, output, c) {
         if is_ascii(name) {
@@ -105,7 +105,7 @@ pub fn read_global(
     c: Counts,
     name: &[u8],
 ) -> GlobalRead
-    ensures { Called (Host.readGlobal name.now) c (tables code.now places.now rows.now starts.now) (mem stacks.now heap.now text.now output.now) (answerOfRead result) c (tables code.now places.now rows.now starts.now) (mem stacks.now heap.now text.now output.now) }
+    ensures { Called (Host.read_global name.now) c (tables code.now places.now rows.now starts.now) (mem stacks.now heap.now text.now output.now) (answer_of_read result) c (tables code.now places.now rows.now starts.now) (mem stacks.now heap.now text.now output.now) }
 {
     if lent(code, places, rows, starts, stacks, heap, text, output, c) {
         if is_ascii(name) {

@@ -1,4 +1,4 @@
--- Search in rows: the machine's `any`, `first` and `changeFirst` by the index of the first row that passes a test. Assumes nothing.
+-- Search in rows: the machine's `any`, `first` and `change_first` by the index of the first row that passes a test. Assumes nothing.
 use Prim.Native.Nat.{ℕ, zero, suc, ◌+◌, ◌≤◌, ◌<◌}
 use Rattle.std.proofs.Common.{arith, eq-or-lt_of_le, inl, inr, sym, ap, ◌∙◌}
 use Rattle.std.specs.Prelude.{◌⊎◌, Bool, true, false, ◌||◌, ◌≡◌}
@@ -6,7 +6,7 @@ use Rattle.std.proofs.Math.Option.{none, some}
 use Rattle.std.proofs.Math.Path.{refl}
 use Rattle.std.proofs.Math.ListN.{get_elem?}
 use Rattle.machine.specs.State as St
-use Rattle.value.specs.Lists.{row_of, row-ext}
+use Rattle.value.specs.Lists.{row_of, row_ext}
 use Rattle.heap.specs.declared.Found.{Found}
 use Rattle.heap.specs.declared.Found.TheVariants.{At, Nothing}
 
@@ -41,16 +41,16 @@ found_none b h = record { told = record { at = λ j l. b.at j (omega arith) } }
 pub found_within : {t : ℕ → Bool} {n i : ℕ} {r : Found} → Finds t n r → r ≡ At i → i < n
 found_within {t} {n} {i} {r} f e = let x : Told t n (At i) = rw e at f.told in x.0
 
-pub finds-ext : {t t' : ℕ → Bool} {n : ℕ} {r : Found} → ((i : ℕ) → t i ≡ t' i) → Finds t n r → Finds t' n r
-finds-ext {t} {t'} {n} {r} e f = record { told = go r f.told }
+pub finds_ext : {t t' : ℕ → Bool} {n : ℕ} {r : Found} → ((i : ℕ) → t i ≡ t' i) → Finds t n r → Finds t' n r
+finds_ext {t} {t'} {n} {r} e f = record { told = go r f.told }
   where
     go : (r : Found) → Told t n r → Told t' n r
     go (At i) x = (x.0, sym (e i) ∙ x.1, record { at = λ j h. sym (e j) ∙ x.2.at j h })
     go Nothing x = record { at = λ j h. sym (e j) ∙ x.at j h }
 
-or-true : (x : Bool) → x || true ≡ true
-or-true true = refl
-or-true false = refl
+or_true : (x : Bool) → x || true ≡ true
+or_true true = refl
+or_true false = refl
 
 -- THE LAW OF SEARCH: what an answer says of a list of rows
 module _ {A : Type 0} (t : A → Bool) (n : ℕ) (f : ℕ → A) (r : Found) (h : Finds (λ i. t (f i)) n r) where
@@ -58,7 +58,7 @@ module _ {A : Type 0} (t : A → Bool) (n : ℕ) (f : ℕ → A) (r : Found) (h 
   unfolding row_of
   any_at zero i f l e = absurd (omega arith)
   any_at (suc n) zero f l e = rw e
-  any_at (suc n) (suc i) f l e = rw (any_at n i (λ k. f (suc k)) (omega arith) e) (or-true (t (f 0)))
+  any_at (suc n) (suc i) f l e = rw (any_at n i (λ k. f (suc k)) (omega arith) e) (or_true (t (f 0)))
 
   any_none : (n : ℕ) (f : ℕ → A) → ((j : ℕ) → j < n → t (f j) ≡ false) → St.any t (row_of n f) ≡ false
   unfolding row_of
@@ -71,46 +71,46 @@ module _ {A : Type 0} (t : A → Bool) (n : ℕ) (f : ℕ → A) (r : Found) (h 
   told_none : r ≡ Nothing → Below (λ j. t (f j)) n
   told_none e = rw e at h.told
 
-  pub found-any : (i : ℕ) → r ≡ At i → St.any t (row_of n f) ≡ true
-  found-any i e = any_at n i f (told_at i e).0 (told_at i e).1
+  pub found_any : (i : ℕ) → r ≡ At i → St.any t (row_of n f) ≡ true
+  found_any i e = any_at n i f (told_at i e).0 (told_at i e).1
 
-  pub found-no : r ≡ Nothing → St.any t (row_of n f) ≡ false
-  found-no e = any_none n f (told_none e).at
+  pub found_no : r ≡ Nothing → St.any t (row_of n f) ≡ false
+  found_no e = any_none n f (told_none e).at
 
   module _ {B : Type 0} (g : A → B) (d : B) where
-    first-at : (n i : ℕ) (f : ℕ → A) → i < n → t (f i) ≡ true → ((j : ℕ) → j < i → t (f j) ≡ false) → St.first t g d (row_of n f) ≡ g (f i)
+    first_at : (n i : ℕ) (f : ℕ → A) → i < n → t (f i) ≡ true → ((j : ℕ) → j < i → t (f j) ≡ false) → St.first t g d (row_of n f) ≡ g (f i)
     unfolding row_of
-    first-at zero i f l e b = absurd (omega arith)
-    first-at (suc n) zero f l e b = rw e
-    first-at (suc n) (suc i) f l e b = rw (b 0 (omega arith)) (first-at n i (λ k. f (suc k)) (omega arith) e (λ j q. b (suc j) (omega arith)))
+    first_at zero i f l e b = absurd (omega arith)
+    first_at (suc n) zero f l e b = rw e
+    first_at (suc n) (suc i) f l e b = rw (b 0 (omega arith)) (first_at n i (λ k. f (suc k)) (omega arith) e (λ j q. b (suc j) (omega arith)))
 
-    first-none : (n : ℕ) (f : ℕ → A) → ((j : ℕ) → j < n → t (f j) ≡ false) → St.first t g d (row_of n f) ≡ d
+    first_none : (n : ℕ) (f : ℕ → A) → ((j : ℕ) → j < n → t (f j) ≡ false) → St.first t g d (row_of n f) ≡ d
     unfolding row_of
-    first-none zero f b = refl
-    first-none (suc n) f b = rw (b 0 (omega arith)) (first-none n (λ k. f (suc k)) (λ j l. b (suc j) (omega arith)))
+    first_none zero f b = refl
+    first_none (suc n) f b = rw (b 0 (omega arith)) (first_none n (λ k. f (suc k)) (λ j l. b (suc j) (omega arith)))
 
     pub found_first : (i : ℕ) → r ≡ At i → St.first t g d (row_of n f) ≡ g (f i)
-    found_first i e = let x = told_at i e in first-at n i f x.0 x.1 x.2.at
+    found_first i e = let x = told_at i e in first_at n i f x.0 x.1 x.2.at
 
-    pub found-default : r ≡ Nothing → St.first t g d (row_of n f) ≡ d
-    found-default e = first-none n f (told_none e).at
+    pub found_default : r ≡ Nothing → St.first t g d (row_of n f) ≡ d
+    found_default e = first_none n f (told_none e).at
 
   -- only the first row that passes is changed
   module _ (g : A → A) where
-    change-at : (n i : ℕ) (f f' : ℕ → A) → i < n → t (f i) ≡ true → ((j : ℕ) → j < i → t (f j) ≡ false)
-        → f' i ≡ g (f i) → ((j : ℕ) → (j ≡ i → ⊥) → f' j ≡ f j) → row_of n f' ≡ St.changeFirst t g (row_of n f)
+    change_at : (n i : ℕ) (f f' : ℕ → A) → i < n → t (f i) ≡ true → ((j : ℕ) → j < i → t (f j) ≡ false)
+        → f' i ≡ g (f i) → ((j : ℕ) → (j ≡ i → ⊥) → f' j ≡ f j) → row_of n f' ≡ St.change_first t g (row_of n f)
     unfolding row_of
-    change-at zero i f f' l e b x y = absurd (omega arith)
-    change-at (suc n) zero f f' l e b x y =
-        let rest : row_of n (λ k. f' (suc k)) ≡ row_of n (λ k. f (suc k)) = row-ext n (λ k. f' (suc k)) (λ k. f (suc k)) (λ j q. y (suc j) (λ z. omega arith)) in
+    change_at zero i f f' l e b x y = absurd (omega arith)
+    change_at (suc n) zero f f' l e b x y =
+        let rest : row_of n (λ k. f' (suc k)) ≡ row_of n (λ k. f (suc k)) = row_ext n (λ k. f' (suc k)) (λ k. f (suc k)) (λ j q. y (suc j) (λ z. omega arith)) in
         rw (e, x, rest)
-    change-at (suc n) (suc i) f f' l e b x y =
-        let rest : row_of n (λ k. f' (suc k)) ≡ St.changeFirst t g (row_of n (λ k. f (suc k))) =
-        change-at n i (λ k. f (suc k)) (λ k. f' (suc k)) (omega arith) e (λ j q. b (suc j) (omega arith)) x (λ j q. y (suc j) (λ z. q (omega arith))) in
+    change_at (suc n) (suc i) f f' l e b x y =
+        let rest : row_of n (λ k. f' (suc k)) ≡ St.change_first t g (row_of n (λ k. f (suc k))) =
+        change_at n i (λ k. f (suc k)) (λ k. f' (suc k)) (omega arith) e (λ j q. b (suc j) (omega arith)) x (λ j q. y (suc j) (λ z. q (omega arith))) in
         rw (b 0 (omega arith), y 0 (λ z. omega arith), rest)
 
-    pub found-change : (i : ℕ) (f' : ℕ → A) → r ≡ At i → f' i ≡ g (f i) → ((j : ℕ) → (j ≡ i → ⊥) → f' j ≡ f j) → row_of n f' ≡ St.changeFirst t g (row_of n f)
-    found-change i f' e x y = let q = told_at i e in change-at n i f f' q.0 q.1 q.2.at x y
+    pub found_change : (i : ℕ) (f' : ℕ → A) → r ≡ At i → f' i ≡ g (f i) → ((j : ℕ) → (j ≡ i → ⊥) → f' j ≡ f j) → row_of n f' ≡ St.change_first t g (row_of n f)
+    found_change i f' e x y = let q = told_at i e in change_at n i f f' q.0 q.1 q.2.at x y
 
 -- a row by its number
 module _ {A : Type 0} where

@@ -10,9 +10,9 @@ use Rattle.machine.specs.Out.{Out, refused, out}
 use Rattle.value.specs.Arena.{set3}
 use Rattle.value.specs.Errors.{space_of}
 use Rattle.value.specs.Lists.{row_of}
-use Rattle.value.specs.Words.{value_at, setValue}
+use Rattle.value.specs.Words.{value_at, set_value}
 use Rattle.value.specs.declared.Value.{Value}
-use Rattle.heap.specs.Layout.{functionLimit, objectLimit, propertyLimit, globalLimit, objectsAt, propertiesAt, globalsAt, heapWords}
+use Rattle.heap.specs.Layout.{function_limit, object_limit, property_limit, global_limit, objects_at, properties_at, globals_at, heap_words}
 use Rattle.heap.specs.declared.Sizes.{Sizes}
 use Rattle.heap.specs.declared.Grown.{Grown}
 use Rattle.heap.specs.declared.Grown.TheVariants.{Went, Refused}
@@ -21,8 +21,8 @@ use Rattle.heap.specs.declared.Registered.TheVariants.{Known, Unknown}
 use Rattle.heap.specs.declared.ObjectType.{ObjectType}
 use Rattle.heap.specs.declared.ObjectType.TheVariants.{Ordinary, Array, NoObject}
 
-unfoldable pub functionAt : List ℕ → ℕ → St.Function
-functionAt w k = record { image = get_or w k 0; template = get_or w (k + 1) 0 }
+unfoldable pub function_at : List ℕ → ℕ → St.Function
+function_at w k = record { image = get_or w k 0; template = get_or w (k + 1) 0 }
 
 -- 0 is an ordinary object, and any other word an array
 abbrev pub kind_of : ℕ → St.Kind
@@ -43,18 +43,18 @@ unfoldable pub row_at : List ℕ → ℕ → Row
 row_at w k = record { head = get_or w k 0; place = get_or w (k + 1) 0; size = get_or w (k + 2) 0; value = value_at w (k + 3) }
 
 unfoldable pub set_row : List ℕ → ℕ → ℕ → ℕ → ℕ → Value → List ℕ
-set_row w k head place size v = setValue (set3 w k head place size) (k + 3) v
+set_row w k head place size v = set_value (set3 w k head place size) (k + 3) v
 
-abbrev pub withValue : M.Value → Row → Row
-withValue v r = record { head = r.head; place = r.place; size = r.size; value = v }
+abbrev pub with_value : M.Value → Row → Row
+with_value v r = record { head = r.head; place = r.place; size = r.size; value = v }
 
 -- a text of the text store
 abbrev pub made : ℕ → ℕ → M.Text
-made a n = record { store = M.inText; at = a; size = n }
+made a n = record { store = M.in_text; at = a; size = n }
 
 -- A property's head is its owner.
-abbrev pub propertyOf : Row → St.Property
-propertyOf r = record { owner = r.head; key = made r.place r.size; value = r.value }
+abbrev pub property_of : Row → St.Property
+property_of r = record { owner = r.head; key = made r.place r.size; value = r.value }
 
 -- A global's head is 0 for a name that is kept; any other stands for `console`.
 abbrev pub name_of : ℕ → ℕ → ℕ → St.Name
@@ -68,17 +68,17 @@ global_of r = record { name = name_of r.head r.place r.size; value = r.value }
 abbrev pub table_of : {A : Type 0} → (Row → A) → ℕ → List ℕ → ℕ → List A
 table_of f base w n = row_of n (λ i. f (row_at w (base + 6 * i)))
 
-abbrev pub functionsOf : List ℕ → ℕ → List St.Function
-functionsOf w n = row_of n (λ i. functionAt w (0 + 2 * i))
+abbrev pub functions_of : List ℕ → ℕ → List St.Function
+functions_of w n = row_of n (λ i. function_at w (0 + 2 * i))
 
-abbrev pub objectsOf : List ℕ → ℕ → List St.Kind
-objectsOf w n = row_of n (λ i. kind_at w (objectsAt + 1 * i))
+abbrev pub objects_of : List ℕ → ℕ → List St.Kind
+objects_of w n = row_of n (λ i. kind_at w (objects_at + 1 * i))
 
-abbrev pub propertiesOf : List ℕ → ℕ → List St.Property
-propertiesOf w n = table_of propertyOf propertiesAt w n
+abbrev pub properties_of : List ℕ → ℕ → List St.Property
+properties_of w n = table_of property_of properties_at w n
 
 abbrev pub globals_of : List ℕ → ℕ → List St.Global
-globals_of w n = table_of global_of globalsAt w n
+globals_of w n = table_of global_of globals_at w n
 
 -- a state with these functions, objects, properties and globals
 abbrev pub within : List St.Function → List St.Kind → List St.Property → List St.Global → St.State → St.State
@@ -98,49 +98,49 @@ within f o p g s = record {
 }
 
 -- the state s with what the words w hold
-abbrev pub onHeap : Sizes → List ℕ → St.State → St.State
-onHeap z w s = within (functionsOf w z.functions) (objectsOf w z.objects) (propertiesOf w z.properties) (globals_of w z.globals) s
+abbrev pub on_heap : Sizes → List ℕ → St.State → St.State
+on_heap z w s = within (functions_of w z.functions) (objects_of w z.objects) (properties_of w z.properties) (globals_of w z.globals) s
 
 pub record Sized (z : Sizes) (w : List ℕ) : Type 0 where
-  pub functions : z.functions ≤ functionLimit
-  pub objects : z.objects ≤ objectLimit
-  pub properties : z.properties ≤ propertyLimit
-  pub globals : z.globals ≤ globalLimit
-  pub size : length w ≡ heapWords
+  pub functions : z.functions ≤ function_limit
+  pub objects : z.objects ≤ object_limit
+  pub properties : z.properties ≤ property_limit
+  pub globals : z.globals ≤ global_limit
+  pub size : length w ≡ heap_words
 
 -- The contract of an act on the heap: whatever program p follows, and whatever the rest of the state is, the program that makes the act and goes on as p
 -- comes to what the answer says. A refusal leaves the words.
-abbrev pub grownThen : Grown → Program → List ℕ → St.State → Out
-grownThen (Went y) p w s = out p (onHeap y w s)
-grownThen (Refused q) p w s = refused (space_of q)
+abbrev pub grown_then : Grown → Program → List ℕ → St.State → Out
+grown_then (Went y) p w s = out p (on_heap y w s)
+grown_then (Refused q) p w s = refused (space_of q)
 
 abbrev pub GrownReady : Grown → List ℕ → List ℕ → Type 0
 GrownReady (Went y) w w' = Sized y w'
 GrownReady (Refused q) w w' = w' ≡ w
 
 pub record Grows (a : A.Act) (z : Sizes) (w : List ℕ) (r : Grown) (w' : List ℕ) : Type 0 where
-  pub goes : (s : St.State) (p : Program) → out (make a p) (onHeap z w s) ≡ grownThen r p w' s
+  pub goes : (s : St.State) (p : Program) → out (make a p) (on_heap z w s) ≡ grown_then r p w' s
   pub ready : GrownReady r w w'
 
 -- the sizes r and the words w' stand for the state that t gives, over any rest
 pub record Gives (t : St.State → St.State) (z : Sizes) (w : List ℕ) (r : Sizes) (w' : List ℕ) : Type 0 where
-  pub state : (s : St.State) → onHeap r w' s ≡ t (onHeap z w s)
+  pub state : (s : St.State) → on_heap r w' s ≡ t (on_heap z w s)
   pub ready : Sized r w'
 
 -- what is read, as the machine looks it up
-abbrev pub functionIn : Registered → Option St.Function
-functionIn (Known i t) = some (record { image = i; template = t })
-functionIn Unknown = none
+abbrev pub function_in : Registered → Option St.Function
+function_in (Known i t) = some (record { image = i; template = t })
+function_in Unknown = none
 
-abbrev pub kindIn : ObjectType → Option St.Kind
-kindIn Ordinary = some St.ordinary
-kindIn Array = some St.array
-kindIn NoObject = none
+abbrev pub kind_in : ObjectType → Option St.Kind
+kind_in Ordinary = some St.ordinary
+kind_in Array = some St.array
+kind_in NoObject = none
 
 -- What clear leaves of these stores.
-abbrev pub freshHeap : St.State → St.State
-freshHeap s = within [] [] [] (St.fresh).globals s
+abbrev pub fresh_heap : St.State → St.State
+fresh_heap s = within [] [] [] (St.fresh).globals s
 
 pub record Clears (r : Sizes) (w' : List ℕ) : Type 0 where
-  pub state : (s : St.State) → onHeap r w' s ≡ freshHeap s
+  pub state : (s : St.State) → on_heap r w' s ≡ fresh_heap s
   pub ready : Sized r w'

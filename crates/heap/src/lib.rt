@@ -5,17 +5,17 @@ ghost use Rattle.std.specs.Prelude.{◌≡◌, ℕ, ◌+◌, ◌*◌, ◌≤◌,
 ghost use Rattle.std.proofs.Math.ListN.{get_elem?};
 ghost use Rattle.machine.specs.Basic.{same};
 ghost use Rattle.machine.specs.Value.{object};
-ghost use Rattle.machine.specs.State.{propertyIn};
-ghost use Rattle.machine.specs.Instruction.{getProperty};
-ghost use Rattle.machine.specs.Act.{addFunction, addObject, addKind};
+ghost use Rattle.machine.specs.State.{property_in};
+ghost use Rattle.machine.specs.Instruction.{get_property};
+ghost use Rattle.machine.specs.Act.{add_function, add_object, add_kind};
 ghost use Rattle.value.specs.Words.{value_of};
 ghost use Rattle.value.specs.Lists.{bytes_of};
 ghost use Rattle.texts.specs.Spans.{named};
 ghost use Rattle.texts.specs.Sources.{stores_of};
-ghost use Rattle.heap.specs.Layout.{objectLimit, propertyLimit, globalLimit, heapWords};
-ghost use Rattle.heap.specs.View.{Sized, Grows, Gives, Clears, functionsOf, objectsOf, propertiesOf, globals_of, functionIn, kindIn, kind_of, set_row, propertyOf, global_of, row_at};
+ghost use Rattle.heap.specs.Layout.{object_limit, property_limit, global_limit, heap_words};
+ghost use Rattle.heap.specs.View.{Sized, Grows, Gives, Clears, functions_of, objects_of, properties_of, globals_of, function_in, kind_in, kind_of, set_row, property_of, global_of, row_at};
 ghost use Rattle.heap.specs.Rows.{Finds};
-ghost use Rattle.heap.specs.Finds.{isPair, isNamed, pair_at, name_at, stores, globalIn, length_of};
+ghost use Rattle.heap.specs.Finds.{is_pair, is_named, pair_at, name_at, stores, global_in, length_of};
 
 use number::JsNumber;
 use texts::Source;
@@ -79,7 +79,7 @@ pub enum Found {
 
 pub fn add_function(z: Sizes, heap: &mut [u64], image: u64, template: u64) -> Grown
     requires { Sized z heap.old }
-    ensures { Grows (addFunction image template) z heap.old result heap.new }
+    ensures { Grows (add_function image template) z heap.old result heap.new }
 {
     let n = z.functions;
     if FUNCTION_LIMIT <= n {
@@ -94,7 +94,7 @@ pub fn add_function(z: Sizes, heap: &mut [u64], image: u64, template: u64) -> Gr
 
 pub fn function(z: Sizes, heap: &[u64], i: u64) -> Registered
     requires { Sized z heap.now }
-    ensures { functionIn result ≡ get_elem? (functionsOf heap.now z.functions) i }
+    ensures { function_in result ≡ get_elem? (functions_of heap.now z.functions) i }
 {
     if z.functions as u64 <= i {
         return Registered::Unknown;
@@ -106,8 +106,8 @@ pub fn function(z: Sizes, heap: &[u64], i: u64) -> Registered
 // A new object, of which there is room: 0 is an ordinary one, 1 an array.
 pub fn add_kind(z: Sizes, heap: &mut [u64], kind: u64) -> Sizes
     requires sized { Sized z heap.old }
-    requires objects_lt_object_limit { z.objects < objectLimit }
-    ensures { Gives (addKind (kind_of kind)) z heap.old result heap.new }
+    requires objects_lt_object_limit { z.objects < object_limit }
+    ensures { Gives (add_kind (kind_of kind)) z heap.old result heap.new }
 {
     let n = z.objects;
     heap[OBJECTS_AT + n] = kind;
@@ -118,7 +118,7 @@ pub fn add_kind(z: Sizes, heap: &mut [u64], kind: u64) -> Sizes
 
 pub fn add_object(z: Sizes, heap: &mut [u64]) -> Grown
     requires { Sized z heap.old }
-    ensures { Grows addObject z heap.old result heap.new }
+    ensures { Grows add_object z heap.old result heap.new }
 {
     if OBJECT_LIMIT <= z.objects {
         return Grown::Refused(Space::Objects);
@@ -128,7 +128,7 @@ pub fn add_object(z: Sizes, heap: &mut [u64]) -> Grown
 
 pub fn object_type(z: Sizes, heap: &[u64], id: u64) -> ObjectType
     requires { Sized z heap.now }
-    ensures { kindIn result ≡ get_elem? (objectsOf heap.now z.objects) id }
+    ensures { kind_in result ≡ get_elem? (objects_of heap.now z.objects) id }
 {
     if z.objects as u64 <= id {
         return ObjectType::NoObject;
@@ -152,7 +152,7 @@ pub fn write_row(heap: &mut [u64], k: usize, head: u64, at: u64, size: u64, v: V
 
 // What clear leaves: `console`, whose name is kept nowhere.
 pub fn clear(heap: &mut [u64]) -> Sizes
-    requires { length heap.old ≡ heapWords }
+    requires { length heap.old ≡ heap_words }
     ensures { Clears result heap.new }
 {
     write_row(heap, GLOBALS_AT, 1, 0, 0, Value::Object(NATIVE_CONSOLE_ID));
@@ -177,7 +177,7 @@ fn text_is(text: &[u8], m: usize, at: u64, size: u64, key: &[u8]) -> bool
 
 fn is_pair(text: &[u8], m: usize, heap: &[u64], k: usize, owner: u64, key: &[u8]) -> bool
     requires { (m ≤ length text.now) × (k + 5 < length heap.now) }
-    ensures { result ≡ isPair (bytes_of text.now m) owner key.now (propertyOf (row_at heap.now k)) }
+    ensures { result ≡ is_pair (bytes_of text.now m) owner key.now (property_of (row_at heap.now k)) }
 {
     if heap[k] != owner {
         return false;
@@ -187,7 +187,7 @@ fn is_pair(text: &[u8], m: usize, heap: &[u64], k: usize, owner: u64, key: &[u8]
 
 fn is_named(text: &[u8], m: usize, heap: &[u64], k: usize, name: &[u8]) -> bool
     requires { (m ≤ length text.now) × (k + 5 < length heap.now) }
-    ensures { result ≡ isNamed (bytes_of text.now m) name.now (global_of (row_at heap.now k)) }
+    ensures { result ≡ is_named (bytes_of text.now m) name.now (global_of (row_at heap.now k)) }
 {
     if heap[k] != 0 {
         return texts::equal_bytes(b"console", name);
@@ -203,7 +203,7 @@ pub fn find_property(
     owner: u64,
     key: &[u8],
 ) -> Found
-    requires { (m ≤ length text.now) × (count ≤ propertyLimit) × (length heap.now ≡ heapWords) }
+    requires { (m ≤ length text.now) × (count ≤ property_limit) × (length heap.now ≡ heap_words) }
     ensures { Finds (pair_at (bytes_of text.now m) heap.now owner key.now) count result }
 {
     let mut i: usize = 0;
@@ -217,7 +217,7 @@ pub fn find_property(
 }
 
 pub fn find_global(text: &[u8], m: usize, heap: &[u64], count: usize, name: &[u8]) -> Found
-    requires { (m ≤ length text.now) × (count ≤ globalLimit) × (length heap.now ≡ heapWords) }
+    requires { (m ≤ length text.now) × (count ≤ global_limit) × (length heap.now ≡ heap_words) }
     ensures { Finds (name_at (bytes_of text.now m) heap.now name.now) count result }
 {
     let mut i: usize = 0;
@@ -232,8 +232,8 @@ pub fn find_global(text: &[u8], m: usize, heap: &[u64], count: usize, name: &[u8
 
 // The value of a property, or Undefined.
 pub fn property(text: &[u8], m: usize, heap: &[u64], count: usize, owner: u64, key: &[u8]) -> Value
-    requires { (m ≤ length text.now) × (count ≤ propertyLimit) × (length heap.now ≡ heapWords) }
-    ensures { (c : List ℕ) → value_of result ≡ propertyIn (stores c (bytes_of text.now m)) (propertiesOf heap.now count) owner key.now }
+    requires { (m ≤ length text.now) × (count ≤ property_limit) × (length heap.now ≡ heap_words) }
+    ensures { (c : List ℕ) → value_of result ≡ property_in (stores c (bytes_of text.now m)) (properties_of heap.now count) owner key.now }
 {
     let Found::At(i) = find_property(text, m, heap, count, owner, key) else {
         return Value::Undefined;
@@ -243,8 +243,8 @@ pub fn property(text: &[u8], m: usize, heap: &[u64], count: usize, owner: u64, k
 
 // The value of a global, or Undefined.
 pub fn global(text: &[u8], m: usize, heap: &[u64], count: usize, name: &[u8]) -> Value
-    requires { (m ≤ length text.now) × (count ≤ globalLimit) × (length heap.now ≡ heapWords) }
-    ensures { (c : List ℕ) → value_of result ≡ globalIn (stores c (bytes_of text.now m)) (globals_of heap.now count) name.now }
+    requires { (m ≤ length text.now) × (count ≤ global_limit) × (length heap.now ≡ heap_words) }
+    ensures { (c : List ℕ) → value_of result ≡ global_in (stores c (bytes_of text.now m)) (globals_of heap.now count) name.now }
 {
     let Found::At(i) = find_global(text, m, heap, count, name) else {
         return Value::Undefined;
@@ -267,7 +267,7 @@ fn text_property(k: usize, key: &[u8]) -> Value
 fn object_property(z: Sizes, heap: &[u64], text: &[u8], m: usize, id: u64, key: &[u8]) -> Value
     requires sized { Sized z heap.now }
     requires m_in_bounds { m ≤ length text.now }
-    ensures { (c : List ℕ) → value_of result ≡ getProperty (stores c (bytes_of text.now m)) (objectsOf heap.now z.objects) (propertiesOf heap.now z.properties) (object id) key.now }
+    ensures { (c : List ℕ) → value_of result ≡ get_property (stores c (bytes_of text.now m)) (objects_of heap.now z.objects) (properties_of heap.now z.properties) (object id) key.now }
 {
     if id < z.objects as u64 {
         return property(text, m, heap, z.properties, id, key);
@@ -287,7 +287,7 @@ pub fn get_property(
 ) -> Value
     requires sized { Sized z heap.now }
     requires m_in_bounds { m ≤ length text.now }
-    ensures { (c : List ℕ) → n ≤ length c → value_of result ≡ getProperty (stores_of c n text.now m) (objectsOf heap.now z.objects) (propertiesOf heap.now z.properties) (value_of v) key.now }
+    ensures { (c : List ℕ) → n ≤ length c → value_of result ≡ get_property (stores_of c n text.now m) (objects_of heap.now z.objects) (properties_of heap.now z.properties) (value_of v) key.now }
 {
     match v {
         Value::Undefined => Value::Undefined,

@@ -6,33 +6,33 @@ use Rattle.machine.specs.State as St
 use Rattle.machine.specs.Act as A
 use Rattle.machine.specs.Program.{Program, look, make}
 use Rattle.machine.specs.Instruction as I
-use Rattle.machine.specs.Convert.{toJsString, jsTypeof}
-use Rattle.machine.specs.Out.{out, out-look}
-use Rattle.value.specs.Lists.{bytes_of, row-length}
+use Rattle.machine.specs.Convert.{to_js_string, js_typeof}
+use Rattle.machine.specs.Out.{out, out_look}
+use Rattle.value.specs.Lists.{bytes_of, row_length}
 use Rattle.value.specs.Words.{value_of}
 use Rattle.value.specs.declared.Space.{Space}
 use Rattle.value.specs.declared.Space.TheVariants.{Text, Output}
 use Rattle.value.specs.declared.Value.{Value}
 use Rattle.value.specs.declared.Value.TheVariants.{MadeText}
-use Rattle.texts.specs.Keeps.{textLimit, outputLimit, onText, onOutput, Keeps, Prints, keptThen, keeps-act, prints-act, appended, full}
-use Rattle.texts.specs.Lines.{valuesAt}
+use Rattle.texts.specs.Keeps.{text_limit, output_limit, on_text, on_output, Keeps, Prints, kept_then, keeps_act, prints_act, appended, full}
+use Rattle.texts.specs.Lines.{values_at}
 use Rattle.texts.specs.Sources.{stores_of}
 use Rattle.texts.specs.declared.Kept.{Kept}
 use Rattle.texts.specs.declared.Kept.TheVariants.{Went as Kept-as-Went, Refused as Kept-as-Refused}
 use Rattle.stacks.specs.View
 use Rattle.stacks.specs.Laws.{with_operands, truncated}
-use Rattle.stacks.specs.Popped.{taken-exactly}
+use Rattle.stacks.specs.Popped.{taken_exactly}
 use Rattle.stacks.specs.declared.Depths.{Depths}
 use Rattle.stacks.specs.declared.Made.{Made}
 use Rattle.stacks.specs.declared.Popped.{Popped}
 use Rattle.stacks.specs.declared.Popped.TheVariants.{Took}
-use Rattle.heap.specs.Layout.{objectsAt}
+use Rattle.heap.specs.Layout.{objects_at}
 use Rattle.heap.specs.View as Heap
-use Rattle.heap.specs.View.{Grows, grownThen, GrownReady, onHeap, objectsOf}
+use Rattle.heap.specs.View.{Grows, grown_then, GrownReady, on_heap, objects_of}
 use Rattle.heap.specs.declared.Sizes.{Sizes}
 use Rattle.heap.specs.declared.Grown.{Grown}
 use Rattle.heap.specs.declared.Grown.TheVariants.{Went as Grown-as-Went, Refused as Grown-as-Refused}
-use Rattle.objects.specs.View.{Puts, placedThen, PlacedReady}
+use Rattle.objects.specs.View.{Puts, placed_then, PlacedReady}
 use Rattle.objects.specs.declared.Placed.{Placed}
 use Rattle.objects.specs.declared.Placed.TheVariants.{Went as Placed-as-Went, Refused as Placed-as-Refused}
 use Rattle.outcome.specs.Meets.{Any, registers, joins, prints}
@@ -40,185 +40,185 @@ use Rattle.fetch.specs.Running.{Runs, Coded, Fetches}
 use Rattle.fetch.specs.declared.Running.{Running}
 use Rattle.fetch.specs.declared.Fetched.{Fetched}
 use Rattle.fetch.specs.declared.Fetched.TheVariants.{Got}
-use Rattle.heapops.specs.Turns.{Mem, mem, below, state_of, withDepths, turned, settledIn, Loaded, Turns}
-use Rattle.heapops.specs.Follows.{any, drops, after_look, after-pop, after-fetch, refuses, pushes}
+use Rattle.heapops.specs.Turns.{Mem, mem, below, state_of, with_depths, turned, settled_in, Loaded, Turns}
+use Rattle.heapops.specs.Follows.{any, drops, after_look, after_pop, after_fetch, refuses, pushes}
 use Rattle.heapops.specs.declared.Counts.{Counts}
 use Rattle.heapops.specs.declared.How.TheVariants.{Refused}
 use Rattle.heapops.specs.declared.Turned.{Turned}
 
-abbrev pub withSizes : Sizes → Counts → Counts
-withSizes y c = record { depths = c.depths; sizes = y; code = c.code; images = c.images; text = c.text; output = c.output }
+abbrev pub with_sizes : Sizes → Counts → Counts
+with_sizes y c = record { depths = c.depths; sizes = y; code = c.code; images = c.images; text = c.text; output = c.output }
 
-abbrev pub withText : ℕ → Counts → Counts
-withText k c = record { depths = c.depths; sizes = c.sizes; code = c.code; images = c.images; text = k; output = c.output }
+abbrev pub with_text : ℕ → Counts → Counts
+with_text k c = record { depths = c.depths; sizes = c.sizes; code = c.code; images = c.images; text = k; output = c.output }
 
-abbrev pub withOutput : ℕ → Counts → Counts
-withOutput k c = record { depths = c.depths; sizes = c.sizes; code = c.code; images = c.images; text = c.text; output = k }
+abbrev pub with_output : ℕ → Counts → Counts
+with_output k c = record { depths = c.depths; sizes = c.sizes; code = c.code; images = c.images; text = c.text; output = k }
 
 -- the stores that hold texts, in a state over the lent ones
-pub bytes-are : (n : ℕ) (code : List ℕ) (c : Counts) (m : Mem) (s : St.State) → s.code ≡ bytes_of code n → St.bytes (state_of c m s) ≡ stores_of code n m.text c.text
-bytes-are n code c m s h = ap (λ (u : List ℕ). record { code = u; text = bytes_of m.text c.text }) h
+pub bytes_are : (n : ℕ) (code : List ℕ) (c : Counts) (m : Mem) (s : St.State) → s.code ≡ bytes_of code n → St.bytes (state_of c m s) ≡ stores_of code n m.text c.text
+bytes_are n code c m s h = ap (λ (u : List ℕ). record { code = u; text = bytes_of m.text c.text }) h
 
 -- The heap grows by an act whose number is pushed.
 module _ (c : Counts) (w h h' : List ℕ) (a : A.Act) (v : M.Value) (f : St.State → Program) {r : Grown} (g : Grows a c.sizes h r h')
     (e : (t o : List ℕ) (s : St.State) → f (state_of c (mem w h t o) s) ≡ make a (I.pushed v)) where
-  grown : (t o : List ℕ) (s : St.State) → out (look f) (state_of c (mem w h t o) s) ≡ grownThen r (I.pushed v) h' (View.onStacks c.depths w (onText c.text t (onOutput c.output o s)))
+  grown : (t o : List ℕ) (s : St.State) → out (look f) (state_of c (mem w h t o) s) ≡ grown_then r (I.pushed v) h' (View.on_stacks c.depths w (on_text c.text t (on_output c.output o s)))
   grown t o s =
-      out-look (state_of c (mem w h t o) s) f
+      out_look (state_of c (mem w h t o) s) f
       ∙ ap (λ (p : Program). out p (state_of c (mem w h t o) s)) (e t o s)
-      ∙ g.goes (View.onStacks c.depths w (onText c.text t (onOutput c.output o s))) (I.pushed v)
+      ∙ g.goes (View.on_stacks c.depths w (on_text c.text t (on_output c.output o s))) (I.pushed v)
 
-  grow-refused : {q : Space} {x : Turned} → r ≡ Grown-as-Refused q → x ≡ turned c (Refused q) → (t o : List ℕ) → Turns Any (look f) c (mem w h t o) x (mem w h' t o)
-  grow-refused {q} b z t o =
+  grow_refused : {q : Space} {x : Turned} → r ≡ Grown-as-Refused q → x ≡ turned c (Refused q) → (t o : List ℕ) → Turns Any (look f) c (mem w h t o) x (mem w h' t o)
+  grow_refused {q} b z t o =
       let same : h' ≡ h = subst (λ (u : Grown). GrownReady u h h') b g.ready in
-      refuses (λ s i. grown t o s ∙ ap (λ (u : Grown). grownThen u (I.pushed v) h' (View.onStacks c.depths w (onText c.text t (onOutput c.output o s)))) b)
-      (λ d s. ap (λ (u : List ℕ). state_of (withDepths d c) (mem w u t o) s) same) z
+      refuses (λ s i. grown t o s ∙ ap (λ (u : Grown). grown_then u (I.pushed v) h' (View.on_stacks c.depths w (on_text c.text t (on_output c.output o s)))) b)
+      (λ d s. ap (λ (u : List ℕ). state_of (with_depths d c) (mem w u t o) s) same) z
 
-  grow-pushed : {y : Sizes} {u : Made} {w' : List ℕ} {x : Turned} → r ≡ Grown-as-Went y → View.Makes (A.push v) c.depths w u w' → x ≡ settledIn (withSizes y c) u
+  grow_pushed : {y : Sizes} {u : Made} {w' : List ℕ} {x : Turned} → r ≡ Grown-as-Went y → View.Makes (A.push v) c.depths w u w' → x ≡ settled_in (with_sizes y c) u
       → (t o : List ℕ) → Turns Any (look f) c (mem w h t o) x (mem w' h' t o)
-  grow-pushed {y} b k z t o =
-      pushes (withSizes y c) w h' t o
-      (λ s i. grown t o s ∙ ap (λ (u : Grown). grownThen u (I.pushed v) h' (View.onStacks c.depths w (onText c.text t (onOutput c.output o s)))) b) k z
+  grow_pushed {y} b k z t o =
+      pushes (with_sizes y c) w h' t o
+      (λ s i. grown t o s ∙ ap (λ (u : Grown). grown_then u (I.pushed v) h' (View.on_stacks c.depths w (on_text c.text t (on_output c.output o s)))) b) k z
 
-abbrev newFunction : ℕ → ℕ → St.State → Program
-newFunction i t s = make (A.addFunction i t) (I.pushed (M.function (length s.functions)))
+abbrev new_function : ℕ → ℕ → St.State → Program
+new_function i t s = make (A.add_function i t) (I.pushed (M.function (length s.functions)))
 
-abbrev newObject : St.State → Program
-newObject s = make A.addObject (I.pushed (M.object (length s.objects)))
+abbrev new_object : St.State → Program
+new_object s = make A.add_object (I.pushed (M.object (length s.objects)))
 
 module _ (c : Counts) (w h h' : List ℕ) {r : Grown} where
-  module _ {i t : ℕ} (g : Grows (A.addFunction i t) c.sizes h r h') where
-    pub register-refused : {q : Space} {x : Turned} → r ≡ Grown-as-Refused q → x ≡ turned c (Refused q) → (u o : List ℕ) → Turns Any (registers i t) c (mem w h u o) x (mem w h' u o)
-    register-refused b z =
-        grow-refused c w h h' (A.addFunction i t) (M.function c.sizes.functions) (newFunction i t) g
-        (λ u o s. ap (λ (n : ℕ). make (A.addFunction i t) (I.pushed (M.function n))) (row-length c.sizes.functions (λ j. Heap.functionAt h (0 + 2 * j)))) b z
+  module _ {i t : ℕ} (g : Grows (A.add_function i t) c.sizes h r h') where
+    pub register_refused : {q : Space} {x : Turned} → r ≡ Grown-as-Refused q → x ≡ turned c (Refused q) → (u o : List ℕ) → Turns Any (registers i t) c (mem w h u o) x (mem w h' u o)
+    register_refused b z =
+        grow_refused c w h h' (A.add_function i t) (M.function c.sizes.functions) (new_function i t) g
+        (λ u o s. ap (λ (n : ℕ). make (A.add_function i t) (I.pushed (M.function n))) (row_length c.sizes.functions (λ j. Heap.function_at h (0 + 2 * j)))) b z
 
     pub registered : {y : Sizes} {v : Made} {w' : List ℕ} {x : Turned} → r ≡ Grown-as-Went y → View.Makes (A.push (M.function c.sizes.functions)) c.depths w v w'
-        → x ≡ settledIn (withSizes y c) v → (u o : List ℕ) → Turns Any (registers i t) c (mem w h u o) x (mem w' h' u o)
+        → x ≡ settled_in (with_sizes y c) v → (u o : List ℕ) → Turns Any (registers i t) c (mem w h u o) x (mem w' h' u o)
     registered b k z =
-        grow-pushed c w h h' (A.addFunction i t) (M.function c.sizes.functions) (newFunction i t) g
-        (λ u o s. ap (λ (n : ℕ). make (A.addFunction i t) (I.pushed (M.function n))) (row-length c.sizes.functions (λ j. Heap.functionAt h (0 + 2 * j)))) b k z
+        grow_pushed c w h h' (A.add_function i t) (M.function c.sizes.functions) (new_function i t) g
+        (λ u o s. ap (λ (n : ℕ). make (A.add_function i t) (I.pushed (M.function n))) (row_length c.sizes.functions (λ j. Heap.function_at h (0 + 2 * j)))) b k z
 
-  module _ (g : Grows A.addObject c.sizes h r h') where
-    pub object-refused : {q : Space} {x : Turned} → r ≡ Grown-as-Refused q → x ≡ turned c (Refused q) → (u o : List ℕ) → Turns Any I.CreateObject c (mem w h u o) x (mem w h' u o)
-    object-refused b z =
-        grow-refused c w h h' A.addObject (M.object c.sizes.objects) newObject g
-        (λ u o s. ap (λ (n : ℕ). make A.addObject (I.pushed (M.object n))) (row-length c.sizes.objects (λ j. Heap.kind_at h (objectsAt + 1 * j)))) b z
+  module _ (g : Grows A.add_object c.sizes h r h') where
+    pub object_refused : {q : Space} {x : Turned} → r ≡ Grown-as-Refused q → x ≡ turned c (Refused q) → (u o : List ℕ) → Turns Any I.CreateObject c (mem w h u o) x (mem w h' u o)
+    object_refused b z =
+        grow_refused c w h h' A.add_object (M.object c.sizes.objects) new_object g
+        (λ u o s. ap (λ (n : ℕ). make A.add_object (I.pushed (M.object n))) (row_length c.sizes.objects (λ j. Heap.kind_at h (objects_at + 1 * j)))) b z
 
-    pub object-made : {y : Sizes} {v : Made} {w' : List ℕ} {x : Turned} → r ≡ Grown-as-Went y → View.Makes (A.push (M.object c.sizes.objects)) c.depths w v w'
-        → x ≡ settledIn (withSizes y c) v → (u o : List ℕ) → Turns Any I.CreateObject c (mem w h u o) x (mem w' h' u o)
-    object-made b k z =
-        grow-pushed c w h h' A.addObject (M.object c.sizes.objects) newObject g
-        (λ u o s. ap (λ (n : ℕ). make A.addObject (I.pushed (M.object n))) (row-length c.sizes.objects (λ j. Heap.kind_at h (objectsAt + 1 * j)))) b k z
+    pub object_made : {y : Sizes} {v : Made} {w' : List ℕ} {x : Turned} → r ≡ Grown-as-Went y → View.Makes (A.push (M.object c.sizes.objects)) c.depths w v w'
+        → x ≡ settled_in (with_sizes y c) v → (u o : List ℕ) → Turns Any I.CreateObject c (mem w h u o) x (mem w' h' u o)
+    object_made b k z =
+        grow_pushed c w h h' A.add_object (M.object c.sizes.objects) new_object g
+        (λ u o s. ap (λ (n : ℕ). make A.add_object (I.pushed (M.object n))) (row_length c.sizes.objects (λ j. Heap.kind_at h (objects_at + 1 * j)))) b k z
 
 -- A text kept and pushed
-abbrev pub textPushed : List ℕ → Program
-textPushed bs = I.keeping bs λ t. I.pushed (M.text t)
+abbrev pub text_pushed : List ℕ → Program
+text_pushed bs = I.keeping bs λ t. I.pushed (M.text t)
 
 -- THE CONTRACT of the push of a text: whatever bytes were kept, with the answer k
 pub record PushesText (c : Counts) (d : Depths) (w : List ℕ) (k : Kept) (x : Turned) (w' : List ℕ) : Type 0 where
-  pub turns : (bs t t' : List ℕ) → length t ≡ textLimit → Keeps bs c.text t k t' → (h o : List ℕ) → Turns Any (textPushed bs) (withDepths d c) (mem w h t o) x (mem w' h t' o)
+  pub turns : (bs t t' : List ℕ) → length t ≡ text_limit → Keeps bs c.text t k t' → (h o : List ℕ) → Turns Any (text_pushed bs) (with_depths d c) (mem w h t o) x (mem w' h t' o)
 
 module _ (c : Counts) (d : Depths) (w : List ℕ) {k : Kept} where
-  kept : (bs t t' : List ℕ) → length t ≡ textLimit → Keeps bs c.text t k t' → (h o : List ℕ) (s : St.State)
-      → out (textPushed bs) (state_of (withDepths d c) (mem w h t o) s)
-      ≡ keptThen St.textStore k (I.pushed (M.text (record { store = M.inText; at = c.text; size = length bs }))) (λ n. state_of (withText n (withDepths d c)) (mem w h t' o) s)
+  kept : (bs t t' : List ℕ) → length t ≡ text_limit → Keeps bs c.text t k t' → (h o : List ℕ) (s : St.State)
+      → out (text_pushed bs) (state_of (with_depths d c) (mem w h t o) s)
+      ≡ kept_then St.text_store k (I.pushed (M.text (record { store = M.in_text; at = c.text; size = length bs }))) (λ n. state_of (with_text n (with_depths d c)) (mem w h t' o) s)
   kept bs t t' l a h o s =
-      out-look (state_of (withDepths d c) (mem w h t o) s) (λ s. make (A.keepText bs) (I.pushed (M.text (St.nextText s (length bs)))))
-      ∙ ap (λ (n : ℕ). out (make (A.keepText bs) (I.pushed (M.text (record { store = M.inText; at = n; size = length bs })))) (state_of (withDepths d c) (mem w h t o) s))
-      (row-length c.text (λ i. get_or t i 0))
-      ∙ keeps-act bs c.text t k t' (View.onStacks d w (onHeap c.sizes h (onOutput c.output o s))) (I.pushed (M.text (record { store = M.inText; at = c.text; size = length bs }))) l a
+      out_look (state_of (with_depths d c) (mem w h t o) s) (λ s. make (A.keep_text bs) (I.pushed (M.text (St.next_text s (length bs)))))
+      ∙ ap (λ (n : ℕ). out (make (A.keep_text bs) (I.pushed (M.text (record { store = M.in_text; at = n; size = length bs })))) (state_of (with_depths d c) (mem w h t o) s))
+      (row_length c.text (λ i. get_or t i 0))
+      ∙ keeps_act bs c.text t k t' (View.on_stacks d w (on_heap c.sizes h (on_output c.output o s))) (I.pushed (M.text (record { store = M.in_text; at = c.text; size = length bs }))) l a
 
-  pub text-refused : {x : Turned} → k ≡ Kept-as-Refused → x ≡ turned c (Refused Text) → PushesText c d w k x w
-  text-refused b z = record {
+  pub text_refused : {x : Turned} → k ≡ Kept-as-Refused → x ≡ turned c (Refused Text) → PushesText c d w k x w
+  text_refused b z = record {
     turns = λ bs t t' l a h o.
-        let p = I.pushed (M.text (record { store = M.inText; at = c.text; size = length bs })) in
-        refuses (λ s i. kept bs t t' l a h o s ∙ ap (λ (u : Kept). keptThen St.textStore u p (λ n. state_of (withText n (withDepths d c)) (mem w h t' o) s)) b)
-        (λ e s. ap (λ (u : List ℕ). state_of (withDepths e c) (mem w h u o) s) (full a b).1) z;
+        let p = I.pushed (M.text (record { store = M.in_text; at = c.text; size = length bs })) in
+        refuses (λ s i. kept bs t t' l a h o s ∙ ap (λ (u : Kept). kept_then St.text_store u p (λ n. state_of (with_text n (with_depths d c)) (mem w h t' o) s)) b)
+        (λ e s. ap (λ (u : List ℕ). state_of (with_depths e c) (mem w h u o) s) (full a b).1) z;
   }
 
-  pub text-pushed : {n size : ℕ} {u : Made} {w' : List ℕ} {x : Turned} → k ≡ Kept-as-Went n → size ≡ n - c.text → View.Makes (A.push (value_of (MadeText c.text size))) d w u w'
-      → x ≡ settledIn (withText n (withDepths d c)) u → PushesText c d w k x w'
-  text-pushed {n} {size} b f g z = record {
+  pub text_pushed_lem : {n size : ℕ} {u : Made} {w' : List ℕ} {x : Turned} → k ≡ Kept-as-Went n → size ≡ n - c.text → View.Makes (A.push (value_of (MadeText c.text size))) d w u w'
+      → x ≡ settled_in (with_text n (with_depths d c)) u → PushesText c d w k x w'
+  text_pushed_lem {n} {size} b f g z = record {
     turns = λ bs t t' l a h o.
-        let p = I.pushed (M.text (record { store = M.inText; at = c.text; size = length bs })) in
+        let p = I.pushed (M.text (record { store = M.in_text; at = c.text; size = length bs })) in
         let long : length bs ≡ size = omega (arith, (appended a b).0, f) in
-        pushes (withText n (withDepths d c)) w h t' o
-        (λ s i. kept bs t t' l a h o s ∙ ap (λ (u : Kept). keptThen St.textStore u p (λ n. state_of (withText n (withDepths d c)) (mem w h t' o) s)) b
-        ∙ ap (λ (j : ℕ). out (I.pushed (M.text (record { store = M.inText; at = c.text; size = j }))) (state_of (withText n (withDepths d c)) (mem w h t' o) s)) long)
+        pushes (with_text n (with_depths d c)) w h t' o
+        (λ s i. kept bs t t' l a h o s ∙ ap (λ (u : Kept). kept_then St.text_store u p (λ n. state_of (with_text n (with_depths d c)) (mem w h t' o) s)) b
+        ∙ ap (λ (j : ℕ). out (I.pushed (M.text (record { store = M.in_text; at = c.text; size = j }))) (state_of (with_text n (with_depths d c)) (mem w h t' o) s)) long)
         g z;
   }
 
 -- Add of texts, and Typeof
-pub joined : {c : Counts} {code w w' t t' : List ℕ} (a b : M.Value) {k : Kept} {x : Turned} → length t ≡ textLimit
-    → Keeps (toJsString (stores_of code c.code t c.text) a ++ toJsString (stores_of code c.code t c.text) b) c.text t k t' → PushesText c c.depths w k x w'
+pub joined : {c : Counts} {code w w' t t' : List ℕ} (a b : M.Value) {k : Kept} {x : Turned} → length t ≡ text_limit
+    → Keeps (to_js_string (stores_of code c.code t c.text) a ++ to_js_string (stores_of code c.code t c.text) b) c.text t k t' → PushesText c c.depths w k x w'
     → (h o : List ℕ) → Turns (Loaded c.code code) (joins a b) c (mem w h t o) x (mem w' h t' o)
 joined {c} {code} {w} {w'} {t} {t'} a b l f p h o =
-    after_look (λ s i. ap (λ (m : St.Bytes). textPushed (toJsString m a ++ toJsString m b)) (bytes-are c.code code c (mem w h t o) s i.code))
-    (any (p.turns (toJsString (stores_of code c.code t c.text) a ++ toJsString (stores_of code c.code t c.text) b) t t' l f h o))
+    after_look (λ s i. ap (λ (m : St.Bytes). text_pushed (to_js_string m a ++ to_js_string m b)) (bytes_are c.code code c (mem w h t o) s i.code))
+    (any (p.turns (to_js_string (stores_of code c.code t c.text) a ++ to_js_string (stores_of code c.code t c.text) b) t t' l f h o))
 
-pub type-pushed : {c : Counts} {d : Depths} {w w' t t' : List ℕ} {q : Popped} {v : Value} {k : Kept} {x : Turned} → length t ≡ textLimit → View.Pops c.depths w q → q ≡ Took v d
-    → Keeps (jsTypeof (value_of v)) c.text t k t' → PushesText c d w k x w' → (h o : List ℕ) → Turns Any I.Typeof c (mem w h t o) x (mem w' h t' o)
-type-pushed {c} {d} {w} {w'} {t} {t'} {q} {v} l f g a p h o = after-pop (λ v. textPushed (jsTypeof v)) f g (p.turns (jsTypeof (value_of v)) t t' l a h o)
+pub type_pushed : {c : Counts} {d : Depths} {w w' t t' : List ℕ} {q : Popped} {v : Value} {k : Kept} {x : Turned} → length t ≡ text_limit → View.Pops c.depths w q → q ≡ Took v d
+    → Keeps (js_typeof (value_of v)) c.text t k t' → PushesText c d w k x w' → (h o : List ℕ) → Turns Any I.Typeof c (mem w h t o) x (mem w' h t' o)
+type_pushed {c} {d} {w} {w'} {t} {t'} {q} {v} l f g a p h o = after_pop (λ v. text_pushed (js_typeof v)) f g (p.turns (js_typeof (value_of v)) t t' l a h o)
 
 -- Call of an object
-module _ (c : Counts) (code w t o o' : List ℕ) (argc : ℕ) {k : Kept} (l : length o ≡ outputLimit)
-    (a : Prints (I.joined (stores_of code c.code t c.text) (valuesAt w (c.depths.operands + 1) argc)) c.output o k o') where
+module _ (c : Counts) (code w t o o' : List ℕ) (argc : ℕ) {k : Kept} (l : length o ≡ output_limit)
+    (a : Prints (I.joined (stores_of code c.code t c.text) (values_at w (c.depths.operands + 1) argc)) c.output o k o') where
   printed : (h : List ℕ) (s : St.State) → Loaded c.code code s → out (prints (View.arguments w (c.depths.operands + 1) argc)) (state_of c (mem w h t o) s)
-      ≡ keptThen St.outputStore k (I.pushed M.undefined) (λ n. state_of (withOutput n c) (mem w h t o') s)
+      ≡ kept_then St.output_store k (I.pushed M.undefined) (λ n. state_of (with_output n c) (mem w h t o') s)
   printed h s i =
       let args = View.arguments w (c.depths.operands + 1) argc in
-      out-look (state_of c (mem w h t o) s) (λ s. make (A.print (I.joined (St.bytes s) args)) (I.pushed M.undefined))
-      ∙ ap (λ (m : St.Bytes). out (make (A.print (I.joined m args)) (I.pushed M.undefined)) (state_of c (mem w h t o) s)) (bytes-are c.code code c (mem w h t o) s i.code)
-      ∙ prints-act (I.joined (stores_of code c.code t c.text) args) c.output o k o' (View.onStacks c.depths w (onHeap c.sizes h (onText c.text t s))) (I.pushed M.undefined) l a
+      out_look (state_of c (mem w h t o) s) (λ s. make (A.print (I.joined (St.bytes s) args)) (I.pushed M.undefined))
+      ∙ ap (λ (m : St.Bytes). out (make (A.print (I.joined m args)) (I.pushed M.undefined)) (state_of c (mem w h t o) s)) (bytes_are c.code code c (mem w h t o) s i.code)
+      ∙ prints_act (I.joined (stores_of code c.code t c.text) args) c.output o k o' (View.on_stacks c.depths w (on_heap c.sizes h (on_text c.text t s))) (I.pushed M.undefined) l a
 
-  pub print-refused : {x : Turned} → k ≡ Kept-as-Refused → x ≡ turned c (Refused Output) → (h : List ℕ)
+  pub print_refused : {x : Turned} → k ≡ Kept-as-Refused → x ≡ turned c (Refused Output) → (h : List ℕ)
       → Turns (Loaded c.code code) (prints (View.arguments w (c.depths.operands + 1) argc)) c (mem w h t o) x (mem w h t o')
-  print-refused b z h =
-      refuses (λ s i. printed h s i ∙ ap (λ (u : Kept). keptThen St.outputStore u (I.pushed M.undefined) (λ n. state_of (withOutput n c) (mem w h t o') s)) b)
-      (λ e s. ap (λ (u : List ℕ). state_of (withDepths e c) (mem w h t u) s) (full a b).1) z
+  print_refused b z h =
+      refuses (λ s i. printed h s i ∙ ap (λ (u : Kept). kept_then St.output_store u (I.pushed M.undefined) (λ n. state_of (with_output n c) (mem w h t o') s)) b)
+      (λ e s. ap (λ (u : List ℕ). state_of (with_depths e c) (mem w h t u) s) (full a b).1) z
 
-  pub print-pushed : {n : ℕ} {u : Made} {w' : List ℕ} {x : Turned} → k ≡ Kept-as-Went n → View.Makes (A.push M.undefined) c.depths w u w' → x ≡ settledIn (withOutput n c) u → (h : List ℕ)
+  pub print_pushed : {n : ℕ} {u : Made} {w' : List ℕ} {x : Turned} → k ≡ Kept-as-Went n → View.Makes (A.push M.undefined) c.depths w u w' → x ≡ settled_in (with_output n c) u → (h : List ℕ)
       → Turns (Loaded c.code code) (prints (View.arguments w (c.depths.operands + 1) argc)) c (mem w h t o) x (mem w' h t o')
-  print-pushed {n} b g z h =
-      pushes (withOutput n c) w h t o'
-      (λ s i. printed h s i ∙ ap (λ (u : Kept). keptThen St.outputStore u (I.pushed M.undefined) (λ n. state_of (withOutput n c) (mem w h t o') s)) b) g z
+  print_pushed {n} b g z h =
+      pushes (with_output n c) w h t o'
+      (λ s i. printed h s i ∙ ap (λ (u : Kept). kept_then St.output_store u (I.pushed M.undefined) (λ n. state_of (with_output n c) (mem w h t o') s)) b) g z
 
 -- CreateArray
-abbrev pub withThree : Depths → Sizes → ℕ → Counts → Counts
-withThree d y k c = record { depths = d; sizes = y; code = c.code; images = c.images; text = k; output = c.output }
+abbrev pub with_three : Depths → Sizes → ℕ → Counts → Counts
+with_three d y k c = record { depths = d; sizes = y; code = c.code; images = c.images; text = k; output = c.output }
 
 module _ (x : Running) (c : Counts) (code w h h' t t' : List ℕ) {r : Fetched} {n : ℕ} {d : Depths} {from argc : ℕ} {u : Placed}
     (f : Fetches x c.code code c.depths r) (q : Runs x c.depths w) (g : r ≡ Got n d) (a : from ≡ d.operands - n) (b : argc ≡ min n d.operands)
-    (k : Puts (A.addArray (I.exactly n (View.arguments w from argc))) c.sizes h c.text t u h' t') where
-  arrayed : (e : Depths) → View.Truncates d n e → (o : List ℕ) (s : St.State) → out (I.createArray n) (state_of (withDepths d c) (mem w h t o) s)
-      ≡ placedThen u (I.pushed (M.object c.sizes.objects)) h' t' (View.onStacks e w (onOutput c.output o s))
+    (k : Puts (A.add_array (I.exactly n (View.arguments w from argc))) c.sizes h c.text t u h' t') where
+  arrayed : (e : Depths) → View.Truncates d n e → (o : List ℕ) (s : St.State) → out (I.create_array n) (state_of (with_depths d c) (mem w h t o) s)
+      ≡ placed_then u (I.pushed (M.object c.sizes.objects)) h' t' (View.on_stacks e w (on_output c.output o s))
   arrayed e l o s =
-      let ops = View.operandsOf w d.operands in
-      let id = length (objectsOf h c.sizes.objects) in
-      out-look (state_of (withDepths d c) (mem w h t o) s)
-      (λ s. make (A.dropMany n) (make (A.addArray (I.exactly n (reverse (take n s.operands)))) (I.pushed (M.object (length s.objects)))))
-      ∙ drops n (make (A.addArray (I.exactly n (reverse (take n ops)))) (I.pushed (M.object id))) (state_of (withDepths d c) (mem w h t o) s)
-      ∙ ap (out (make (A.addArray (I.exactly n (reverse (take n ops)))) (I.pushed (M.object id)))) (sym (l.state w (below c (mem w h t o) s)))
-      ∙ ap (λ (vs : List M.Value). out (make (A.addArray vs) (I.pushed (M.object id))) (state_of (withDepths e c) (mem w h t o) s)) (taken-exactly w d.operands n)
-      ∙ ap (λ (i : ℕ). out (make (A.addArray (I.exactly n (View.arguments w i (min n d.operands)))) (I.pushed (M.object id))) (state_of (withDepths e c) (mem w h t o) s)) (sym a)
-      ∙ ap (λ (i : ℕ). out (make (A.addArray (I.exactly n (View.arguments w from i))) (I.pushed (M.object id))) (state_of (withDepths e c) (mem w h t o) s)) (sym b)
-      ∙ ap (λ (i : ℕ). out (make (A.addArray (I.exactly n (View.arguments w from argc))) (I.pushed (M.object i))) (state_of (withDepths e c) (mem w h t o) s))
-      (row-length c.sizes.objects (λ j. Heap.kind_at h (objectsAt + 1 * j)))
-      ∙ k.goes (View.onStacks e w (onOutput c.output o s)) (I.pushed (M.object c.sizes.objects))
+      let ops = View.operands_of w d.operands in
+      let id = length (objects_of h c.sizes.objects) in
+      out_look (state_of (with_depths d c) (mem w h t o) s)
+      (λ s. make (A.drop_many n) (make (A.add_array (I.exactly n (reverse (take n s.operands)))) (I.pushed (M.object (length s.objects)))))
+      ∙ drops n (make (A.add_array (I.exactly n (reverse (take n ops)))) (I.pushed (M.object id))) (state_of (with_depths d c) (mem w h t o) s)
+      ∙ ap (out (make (A.add_array (I.exactly n (reverse (take n ops)))) (I.pushed (M.object id)))) (sym (l.state w (below c (mem w h t o) s)))
+      ∙ ap (λ (vs : List M.Value). out (make (A.add_array vs) (I.pushed (M.object id))) (state_of (with_depths e c) (mem w h t o) s)) (taken_exactly w d.operands n)
+      ∙ ap (λ (i : ℕ). out (make (A.add_array (I.exactly n (View.arguments w i (min n d.operands)))) (I.pushed (M.object id))) (state_of (with_depths e c) (mem w h t o) s)) (sym a)
+      ∙ ap (λ (i : ℕ). out (make (A.add_array (I.exactly n (View.arguments w from i))) (I.pushed (M.object id))) (state_of (with_depths e c) (mem w h t o) s)) (sym b)
+      ∙ ap (λ (i : ℕ). out (make (A.add_array (I.exactly n (View.arguments w from argc))) (I.pushed (M.object i))) (state_of (with_depths e c) (mem w h t o) s))
+      (row_length c.sizes.objects (λ j. Heap.kind_at h (objects_at + 1 * j)))
+      ∙ k.goes (View.on_stacks e w (on_output c.output o s)) (I.pushed (M.object c.sizes.objects))
 
-  pub array-refused : {p : Space} {y : Turned} → u ≡ Placed-as-Refused p → y ≡ turned c (Refused p) → (o : List ℕ)
+  pub array_refused : {p : Space} {y : Turned} → u ≡ Placed-as-Refused p → y ≡ turned c (Refused p) → (o : List ℕ)
       → Turns (Coded x c.code code) I.CreateArray c (mem w h t o) y (mem w h' t' o)
-  array-refused {p} z i o =
+  array_refused {p} z i o =
       let e = with_operands (d.operands - n) d in
       let same : (h' ≡ h) × (t' ≡ t) = subst (λ (v : Placed). PlacedReady v h t h' t') z k.ready in
-      after-fetch f I.createArray (λ s v. v) q g
-      (refuses (λ s v. arrayed e (truncated d n (d.operands - n) refl) o s ∙ ap (λ (v : Placed). placedThen v (I.pushed (M.object c.sizes.objects)) h' t' (View.onStacks e w (onOutput c.output o s))) z)
-      (λ v s. ap (λ (y : List ℕ). state_of (withDepths v c) (mem w y t' o) s) same.0 ∙ ap (λ (y : List ℕ). state_of (withDepths v c) (mem w h y o) s) same.1) i)
+      after_fetch f I.create_array (λ s v. v) q g
+      (refuses (λ s v. arrayed e (truncated d n (d.operands - n) refl) o s ∙ ap (λ (v : Placed). placed_then v (I.pushed (M.object c.sizes.objects)) h' t' (View.on_stacks e w (on_output c.output o s))) z)
+      (λ v s. ap (λ (y : List ℕ). state_of (with_depths v c) (mem w y t' o) s) same.0 ∙ ap (λ (y : List ℕ). state_of (with_depths v c) (mem w h y o) s) same.1) i)
 
   pub array_made : {e : Depths} {z : Sizes} {m : ℕ} {v : Made} {w' : List ℕ} {y : Turned} → View.Truncates d n e → u ≡ Placed-as-Went z m → View.Makes (A.push (M.object c.sizes.objects)) e w v w'
-      → y ≡ settledIn (withThree e z m c) v → (o : List ℕ) → Turns (Coded x c.code code) I.CreateArray c (mem w h t o) y (mem w' h' t' o)
+      → y ≡ settled_in (with_three e z m c) v → (o : List ℕ) → Turns (Coded x c.code code) I.CreateArray c (mem w h t o) y (mem w' h' t' o)
   array_made {e} {z} {m} l b j i o =
-      after-fetch f I.createArray (λ s v. v) q g
-      (pushes (withThree e z m c) w h' t' o
-      (λ s v. arrayed e l o s ∙ ap (λ (v : Placed). placedThen v (I.pushed (M.object c.sizes.objects)) h' t' (View.onStacks e w (onOutput c.output o s))) b) j i)
+      after_fetch f I.create_array (λ s v. v) q g
+      (pushes (with_three e z m c) w h' t' o
+      (λ s v. arrayed e l o s ∙ ap (λ (v : Placed). placed_then v (I.pushed (M.object c.sizes.objects)) h' t' (View.on_stacks e w (on_output c.output o s))) b) j i)

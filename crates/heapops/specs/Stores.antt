@@ -9,17 +9,17 @@ use Rattle.machine.specs.State as St
 use Rattle.machine.specs.Act as A
 use Rattle.machine.specs.Program.{Program, next, look, make}
 use Rattle.machine.specs.Instruction as I
-use Rattle.machine.specs.Convert.{toJsString}
+use Rattle.machine.specs.Convert.{to_js_string}
 use Rattle.value.specs.Words.{value_of}
 use Rattle.value.specs.declared.JsVmError.TheVariants.{StackUnderflow, IpOutOfBounds}
 use Rattle.value.specs.declared.Value.{Value}
-use Rattle.image.specs.View.{constantsOf}
-use Rattle.texts.specs.Keeps.{onOutput}
-use Rattle.texts.specs.Sources.{stores_of, sourceBytes}
+use Rattle.image.specs.View.{constants_of}
+use Rattle.texts.specs.Keeps.{on_output}
+use Rattle.texts.specs.Sources.{stores_of, source_bytes}
 use Rattle.texts.specs.Spells.{Spells}
 use Rattle.texts.specs.declared.Source.{Source}
 use Rattle.stacks.specs.View
-use Rattle.stacks.specs.Laws.{with_operands, withIp}
+use Rattle.stacks.specs.Laws.{with_operands, with_ip}
 use Rattle.stacks.specs.declared.Depths.{Depths}
 use Rattle.stacks.specs.declared.Popped.{Popped}
 use Rattle.stacks.specs.declared.Popped.TheVariants.{Took, Empty}
@@ -30,97 +30,97 @@ use Rattle.outcome.specs.Meets.{Pairs}
 use Rattle.outcome.specs.declared.End.TheVariants.{Failed}
 use Rattle.outcome.specs.declared.Pair.{Pair}
 use Rattle.outcome.specs.declared.Pair.TheVariants.{Both, Short}
-use Rattle.fetch.specs.Running.{Runs, FetchesWord, current-is, got-runs}
+use Rattle.fetch.specs.Running.{Runs, FetchesWord, current_is, got_runs}
 use Rattle.fetch.specs.declared.Running.{Running}
 use Rattle.fetch.specs.declared.Fetched.{Fetched}
 use Rattle.fetch.specs.declared.Fetched.TheVariants.{Got, Missing}
 use Rattle.readops.specs.Holds.{Constants}
-use Rattle.heapops.specs.Turns.{Mem, mem, below, state_of, withDepths, turned, placedIn, Loaded, Turns}
-use Rattle.heapops.specs.Follows.{after_look, after-pop, pop-fails, after_two, two-fail, after-fetch, fetch-fails, puts, left-of, left-put}
-use Rattle.heapops.specs.Makes.{bytes-are}
+use Rattle.heapops.specs.Turns.{Mem, mem, below, state_of, with_depths, turned, placed_in, Loaded, Turns}
+use Rattle.heapops.specs.Follows.{after_look, after_pop, pop_fails, after_two, two_fail, after_fetch, fetch_fails, puts, left_of, left_put}
+use Rattle.heapops.specs.Makes.{bytes_are}
 use Rattle.heapops.specs.declared.Counts.{Counts}
 use Rattle.heapops.specs.declared.How.TheVariants.{Ended}
 use Rattle.heapops.specs.declared.Turned.{Turned}
 
 -- A name, from the code
-abbrev constantIn : Running → List ℕ → List ℕ → ℕ → Option Im.Constant
-constantIn x code places i = get_elem? (constantsOf code places x.shape.constants x.shape.constant_count) i
+abbrev constant_in : Running → List ℕ → List ℕ → ℕ → Option Im.Constant
+constant_in x code places i = get_elem? (constants_of code places x.shape.constants x.shape.constant_count) i
 
 abbrev by : (List ℕ → Program) → ℕ → Program
-by k i = look λ s. k (I.getStringConstant (St.bytes s) i (I.constantAt s i))
+by k i = look λ s. k (I.get_string_constant (St.bytes s) i (I.constant_at s i))
 
-name-is : (x : Running) (n : ℕ) (code places : List ℕ) (c : Counts) (m : Mem) → Runs x c.depths m.stacks → (s : St.State) → Constants x n code places s → (i : ℕ)
-    → I.getStringConstant (St.bytes (state_of c m s)) i (I.constantAt (state_of c m s) i) ≡ I.getStringConstant (stores_of code n m.text c.text) i (constantIn x code places i)
-name-is x n code places c m q s h i =
-    ap (λ (b : St.Bytes). I.getStringConstant b i (I.constantAt (state_of c m s) i)) (bytes-are n code c m s h.coded.code)
-    ∙ ap (λ (t : Im.Template). I.getStringConstant (stores_of code n m.text c.text) i (get_elem? t.constants i)) (current-is q (below c m s))
-    ∙ ap (λ (cs : List Im.Constant). I.getStringConstant (stores_of code n m.text c.text) i (get_elem? cs i)) h.pooled.constants
+name_is : (x : Running) (n : ℕ) (code places : List ℕ) (c : Counts) (m : Mem) → Runs x c.depths m.stacks → (s : St.State) → Constants x n code places s → (i : ℕ)
+    → I.get_string_constant (St.bytes (state_of c m s)) i (I.constant_at (state_of c m s) i) ≡ I.get_string_constant (stores_of code n m.text c.text) i (constant_in x code places i)
+name_is x n code places c m q s h i =
+    ap (λ (b : St.Bytes). I.get_string_constant b i (I.constant_at (state_of c m s) i)) (bytes_are n code c m s h.coded.code)
+    ∙ ap (λ (t : Im.Template). I.get_string_constant (stores_of code n m.text c.text) i (get_elem? t.constants i)) (current_is q (below c m s))
+    ∙ ap (λ (cs : List Im.Constant). I.get_string_constant (stores_of code n m.text c.text) i (get_elem? cs i)) h.pooled.constants
 
 module _ {x : Running} {c : Counts} {code : List ℕ} (places : List ℕ) {w h t : List ℕ} {r : Fetched} (f : FetchesWord x c.code code c.depths r) (q : Runs x c.depths w) where
-  pub name-fails : (k : List ℕ → Program) {d : Depths} {y : Turned} → r ≡ Missing → d ≡ withIp (max c.depths.ip x.shape.size) c.depths
-      → y ≡ turned (withDepths d c) (Ended (Failed IpOutOfBounds)) → (o : List ℕ) → Turns (Constants x c.code code places) (I.fetchName k) c (mem w h t o) y (mem w h t o)
-  name-fails k g b e o = fetch-fails f (by k) (λ s h. h.coded) q g b e
+  pub name_fails : (k : List ℕ → Program) {d : Depths} {y : Turned} → r ≡ Missing → d ≡ with_ip (max c.depths.ip x.shape.size) c.depths
+      → y ≡ turned (with_depths d c) (Ended (Failed IpOutOfBounds)) → (o : List ℕ) → Turns (Constants x c.code code places) (I.fetch_name k) c (mem w h t o) y (mem w h t o)
+  name_fails k g b e o = fetch_fails f (by k) (λ s h. h.coded) q g b e
 
   module _ {i : ℕ} {e : Depths} (g : r ≡ Got i e) where
-    after-name : (k : List ℕ → Program) (key : List ℕ) {m' : Mem} {y : Turned} (o : List ℕ) → I.getStringConstant (stores_of code c.code t c.text) i (constantIn x code places i) ≡ key
-        → Turns (Constants x c.code code places) (k key) (withDepths e c) (mem w h t o) y m' → Turns (Constants x c.code code places) (I.fetchName k) c (mem w h t o) y m'
-    after-name k key o z a =
-        after-fetch f (by k) (λ s h. h.coded) q g
-        (after_look (λ s b. ap k (name-is x c.code code places (withDepths e c) (mem w h t o) (got-runs f g q) s b i ∙ z)) a)
+    after_name : (k : List ℕ → Program) (key : List ℕ) {m' : Mem} {y : Turned} (o : List ℕ) → I.get_string_constant (stores_of code c.code t c.text) i (constant_in x code places i) ≡ key
+        → Turns (Constants x c.code code places) (k key) (with_depths e c) (mem w h t o) y m' → Turns (Constants x c.code code places) (I.fetch_name k) c (mem w h t o) y m'
+    after_name k key o z a =
+        after_fetch f (by k) (λ s h. h.coded) q g
+        (after_look (λ s b. ap k (name_is x c.code code places (with_depths e c) (mem w h t o) (got_runs f g q) s b i ∙ z)) a)
 
     -- no value stands
-    pub global-short : {u : Popped} {d : Depths} {y : Turned} → View.Pops e w u → u ≡ Empty → d ≡ with_operands 0 e → y ≡ turned (withDepths d c) (Ended (Failed StackUnderflow))
+    pub global_short : {u : Popped} {d : Depths} {y : Turned} → View.Pops e w u → u ≡ Empty → d ≡ with_operands 0 e → y ≡ turned (with_depths d c) (Ended (Failed StackUnderflow))
         → (o : List ℕ) → Turns (Constants x c.code code places) I.StoreGlobal c (mem w h t o) y (mem w h t o)
-    global-short a b j l o =
-        let key = I.getStringConstant (stores_of code c.code t c.text) i (constantIn x code places i) in
-        after-name (λ n. I.pop λ v. make (A.putGlobal n (A.plain v)) next) key o refl (pop-fails (λ v. make (A.putGlobal key (A.plain v)) next) a b j l)
+    global_short a b j l o =
+        let key = I.get_string_constant (stores_of code c.code t c.text) i (constant_in x code places i) in
+        after_name (λ n. I.pop λ v. make (A.put_global n (A.plain v)) next) key o refl (pop_fails (λ v. make (A.put_global key (A.plain v)) next) a b j l)
 
-    pub property-short : {u : Pair} {d : Depths} {y : Turned} → Pairs e w u → u ≡ Short → d ≡ with_operands 0 e → y ≡ turned (withDepths d c) (Ended (Failed StackUnderflow))
+    pub property_short : {u : Pair} {d : Depths} {y : Turned} → Pairs e w u → u ≡ Short → d ≡ with_operands 0 e → y ≡ turned (with_depths d c) (Ended (Failed StackUnderflow))
         → (o : List ℕ) → Turns (Constants x c.code code places) I.StoreProperty c (mem w h t o) y (mem w h t o)
-    property-short a b j l o =
-        let key = I.getStringConstant (stores_of code c.code t c.text) i (constantIn x code places i) in
-        after-name (λ k. I.pop λ v. I.pop λ o. I.setProperty o k v) key o refl (two-fail (λ o v. I.setProperty o key v) a b j l)
+    property_short a b j l o =
+        let key = I.get_string_constant (stores_of code c.code t c.text) i (constant_in x code places i) in
+        after_name (λ k. I.pop λ v. I.pop λ o. I.set_property o k v) key o refl (two_fail (λ o v. I.set_property o key v) a b j l)
 
-    module _ {src : Source} {buffer h' t' : List ℕ} {p : Placed} {d : Depths} {y : Turned} (sp : Spells (λ b. I.getStringConstant b i (constantIn x code places i)) src buffer) where
-      pub global-stored : {u : Popped} {v : Value} → View.Pops e w u → u ≡ Took v d
-          → Puts (A.putGlobal (sourceBytes (stores_of code c.code t c.text) buffer src) (A.plain (value_of v))) c.sizes h c.text t p h' t' → y ≡ placedIn c d p
+    module _ {src : Source} {buffer h' t' : List ℕ} {p : Placed} {d : Depths} {y : Turned} (sp : Spells (λ b. I.get_string_constant b i (constant_in x code places i)) src buffer) where
+      pub global_stored : {u : Popped} {v : Value} → View.Pops e w u → u ≡ Took v d
+          → Puts (A.put_global (source_bytes (stores_of code c.code t c.text) buffer src) (A.plain (value_of v))) c.sizes h c.text t p h' t' → y ≡ placed_in c d p
           → (o : List ℕ) → Turns (Constants x c.code code places) I.StoreGlobal c (mem w h t o) y (mem w h' t' o)
-      global-stored {u} {v} a b j l o =
-          let key = sourceBytes (stores_of code c.code t c.text) buffer src in
-          after-name (λ n. I.pop λ v. make (A.putGlobal n (A.plain v)) next) key o (sym (sp.bytes (stores_of code c.code t c.text)))
-          (after-pop (λ v. make (A.putGlobal key (A.plain v)) next) a b
-          (puts c.depths d p (λ s z. j.goes (View.onStacks d w (onOutput c.output o s)) next) (left-put c.sizes h c.text t p h' t' j.ready) l))
+      global_stored {u} {v} a b j l o =
+          let key = source_bytes (stores_of code c.code t c.text) buffer src in
+          after_name (λ n. I.pop λ v. make (A.put_global n (A.plain v)) next) key o (sym (sp.bytes (stores_of code c.code t c.text)))
+          (after_pop (λ v. make (A.put_global key (A.plain v)) next) a b
+          (puts c.depths d p (λ s z. j.goes (View.on_stacks d w (on_output c.output o s)) next) (left_put c.sizes h c.text t p h' t' j.ready) l))
 
-      pub property-stored : {u : Pair} {a v : Value} → Pairs e w u → u ≡ Both a v d
-          → Sets (value_of a) (sourceBytes (stores_of code c.code t c.text) buffer src) (value_of v) c.sizes h c.text t p h' t' → y ≡ placedIn c d p
+      pub property_stored : {u : Pair} {a v : Value} → Pairs e w u → u ≡ Both a v d
+          → Sets (value_of a) (source_bytes (stores_of code c.code t c.text) buffer src) (value_of v) c.sizes h c.text t p h' t' → y ≡ placed_in c d p
           → (o : List ℕ) → Turns (Constants x c.code code places) I.StoreProperty c (mem w h t o) y (mem w h' t' o)
-      property-stored {u} {a} {v} k b j l o =
-          let key = sourceBytes (stores_of code c.code t c.text) buffer src in
-          after-name (λ k. I.pop λ v. I.pop λ o. I.setProperty o k v) key o (sym (sp.bytes (stores_of code c.code t c.text)))
-          (after_two (λ o v. I.setProperty o key v) k b
-          (puts c.depths d p (λ s z. j.goes (View.onStacks d w (onOutput c.output o s))) (left-of c.sizes h c.text t p h' t' j.ready) l))
+      property_stored {u} {a} {v} k b j l o =
+          let key = source_bytes (stores_of code c.code t c.text) buffer src in
+          after_name (λ k. I.pop λ v. I.pop λ o. I.set_property o k v) key o (sym (sp.bytes (stores_of code c.code t c.text)))
+          (after_two (λ o v. I.set_property o key v) k b
+          (puts c.depths d p (λ s z. j.goes (View.on_stacks d w (on_output c.output o s))) (left_of c.sizes h c.text t p h' t' j.ready) l))
 
 -- The text of a value as a key
 abbrev keyed : M.Value → M.Value → M.Value → Program
-keyed v o i = look λ s. I.setProperty o (toJsString (St.bytes s) i) v
+keyed v o i = look λ s. I.set_property o (to_js_string (St.bytes s) i) v
 
 module _ {c : Counts} (code : List ℕ) {w h t : List ℕ} {r : Popped} {y : Turned} (f : View.Pops c.depths w r) where
-  pub index-empty : {d : Depths} → r ≡ Empty → d ≡ with_operands 0 c.depths → y ≡ turned (withDepths d c) (Ended (Failed StackUnderflow))
+  pub index_empty : {d : Depths} → r ≡ Empty → d ≡ with_operands 0 c.depths → y ≡ turned (with_depths d c) (Ended (Failed StackUnderflow))
       → (o : List ℕ) → Turns (Loaded c.code code) I.StoreIndex c (mem w h t o) y (mem w h t o)
-  index-empty g b e o = pop-fails (λ v. I.pop λ i. I.pop λ o. keyed v o i) f g b e
+  index_empty g b e o = pop_fails (λ v. I.pop λ i. I.pop λ o. keyed v o i) f g b e
 
   module _ {v : Value} {e : Depths} (g : r ≡ Took v e) {u : Pair} {d : Depths} (k : Pairs e w u) where
-    pub index_short : u ≡ Short → d ≡ with_operands 0 e → y ≡ turned (withDepths d c) (Ended (Failed StackUnderflow))
+    pub index_short : u ≡ Short → d ≡ with_operands 0 e → y ≡ turned (with_depths d c) (Ended (Failed StackUnderflow))
         → (o : List ℕ) → Turns (Loaded c.code code) I.StoreIndex c (mem w h t o) y (mem w h t o)
-    index_short b j l o = after-pop (λ v. I.pop λ i. I.pop λ o. keyed v o i) f g (two-fail (keyed (value_of v)) k b j l)
+    index_short b j l o = after_pop (λ v. I.pop λ i. I.pop λ o. keyed v o i) f g (two_fail (keyed (value_of v)) k b j l)
 
-    pub index-stored : {a i : Value} {src : Source} {buffer h' t' : List ℕ} {p : Placed} → u ≡ Both a i d → Spells (λ b. toJsString b (value_of i)) src buffer
-        → Sets (value_of a) (sourceBytes (stores_of code c.code t c.text) buffer src) (value_of v) c.sizes h c.text t p h' t' → y ≡ placedIn c d p
+    pub index_stored : {a i : Value} {src : Source} {buffer h' t' : List ℕ} {p : Placed} → u ≡ Both a i d → Spells (λ b. to_js_string b (value_of i)) src buffer
+        → Sets (value_of a) (source_bytes (stores_of code c.code t c.text) buffer src) (value_of v) c.sizes h c.text t p h' t' → y ≡ placed_in c d p
         → (o : List ℕ) → Turns (Loaded c.code code) I.StoreIndex c (mem w h t o) y (mem w h' t' o)
-    index-stored {a} {i} {src} {buffer} {h'} {t'} {p} b sp j l o =
+    index_stored {a} {i} {src} {buffer} {h'} {t'} {p} b sp j l o =
         let stores = stores_of code c.code t c.text in
-        after-pop (λ v. I.pop λ i. I.pop λ o. keyed v o i) f g
+        after_pop (λ v. I.pop λ i. I.pop λ o. keyed v o i) f g
         (after_two (keyed (value_of v)) k b
-        (after_look (λ s z. ap (λ (m : St.Bytes). I.setProperty (value_of a) (toJsString m (value_of i)) (value_of v)) (bytes-are c.code code (withDepths d c) (mem w h t o) s z.code)
-        ∙ ap (λ (n : List ℕ). I.setProperty (value_of a) n (value_of v)) (sym (sp.bytes stores)))
-        (puts c.depths d p (λ s z. j.goes (View.onStacks d w (onOutput c.output o s))) (left-of c.sizes h c.text t p h' t' j.ready) l)))
+        (after_look (λ s z. ap (λ (m : St.Bytes). I.set_property (value_of a) (to_js_string m (value_of i)) (value_of v)) (bytes_are c.code code (with_depths d c) (mem w h t o) s z.code)
+        ∙ ap (λ (n : List ℕ). I.set_property (value_of a) n (value_of v)) (sym (sp.bytes stores)))
+        (puts c.depths d p (λ s z. j.goes (View.on_stacks d w (on_output c.output o s))) (left_of c.sizes h c.text t p h' t' j.ready) l)))

@@ -5,12 +5,12 @@ use Rattle.machine.specs.Program.{Program}
 use Rattle.machine.specs.Out.{Out, went, ended, refused, out}
 use Rattle.value.specs.Errors.{space_of}
 use Rattle.value.specs.Lists.{bytes_of}
-use Rattle.texts.specs.Keeps.{onText, onOutput}
-use Rattle.stacks.specs.View.{onStacks}
+use Rattle.texts.specs.Keeps.{on_text, on_output}
+use Rattle.stacks.specs.View.{on_stacks}
 use Rattle.stacks.specs.declared.Depths.{Depths}
 use Rattle.stacks.specs.declared.Made.{Made}
 use Rattle.stacks.specs.declared.Made.TheVariants.{Went as Made-as-Went, Failed as Made-as-Failed, Refused as Made-as-Refused}
-use Rattle.heap.specs.View.{onHeap}
+use Rattle.heap.specs.View.{on_heap}
 use Rattle.heap.specs.declared.Sizes.{Sizes}
 use Rattle.objects.specs.declared.Placed.{Placed}
 use Rattle.objects.specs.declared.Placed.TheVariants.{Went as Placed-as-Went, Refused as Placed-as-Refused}
@@ -33,30 +33,30 @@ mem w h t o = record { stacks = w; heap = h; text = t; output = o }
 
 -- what stands below the stacks, and all of it; s has the code and the images
 abbrev pub below : Counts → Mem → St.State → St.State
-below c m s = onHeap c.sizes m.heap (onText c.text m.text (onOutput c.output m.output s))
+below c m s = on_heap c.sizes m.heap (on_text c.text m.text (on_output c.output m.output s))
 
 abbrev pub state_of : Counts → Mem → St.State → St.State
-state_of c m s = onStacks c.depths m.stacks (below c m s)
+state_of c m s = on_stacks c.depths m.stacks (below c m s)
 
-abbrev pub withDepths : Depths → Counts → Counts
-withDepths d c = record { depths = d; sizes = c.sizes; code = c.code; images = c.images; text = c.text; output = c.output }
+abbrev pub with_depths : Depths → Counts → Counts
+with_depths d c = record { depths = d; sizes = c.sizes; code = c.code; images = c.images; text = c.text; output = c.output }
 
 -- of the fresh engine, but for the heap
-abbrev pub freshCounts : Sizes → Counts
-freshCounts z = record { depths = record { operands = 0; slots = 0; frames = 0; handlers = 0; ip = 0 }; sizes = z; code = 0; images = 0; text = 0; output = 0 }
+abbrev pub fresh_counts : Sizes → Counts
+fresh_counts z = record { depths = record { operands = 0; slots = 0; frames = 0; handlers = 0; ip = 0 }; sizes = z; code = 0; images = 0; text = 0; output = 0 }
 
 abbrev pub turned : Counts → How → Turned
 turned c h = record { counts = c; how = h }
 
 -- the end of an instruction whose last act is a push, or one on the heap and the text
-abbrev pub settledIn : Counts → Made → Turned
-settledIn c (Made-as-Went d) = turned (withDepths d c) Went
-settledIn c (Made-as-Failed e) = turned c (Ended (Failed e))
-settledIn c (Made-as-Refused q) = turned c (Refused q)
+abbrev pub settled_in : Counts → Made → Turned
+settled_in c (Made-as-Went d) = turned (with_depths d c) Went
+settled_in c (Made-as-Failed e) = turned c (Ended (Failed e))
+settled_in c (Made-as-Refused q) = turned c (Refused q)
 
-abbrev pub placedIn : Counts → Depths → Placed → Turned
-placedIn c d (Placed-as-Went y m) = turned (record { depths = d; sizes = y; code = c.code; images = c.images; text = m; output = c.output }) Went
-placedIn c d (Placed-as-Refused q) = turned c (Refused q)
+abbrev pub placed_in : Counts → Depths → Placed → Turned
+placed_in c d (Placed-as-Went y m) = turned (record { depths = d; sizes = y; code = c.code; images = c.images; text = m; output = c.output }) Went
+placed_in c d (Placed-as-Refused q) = turned c (Refused q)
 
 -- The state s has n bytes of this code loaded.
 pub record Loaded (n : ℕ) (c : List ℕ) (s : St.State) : Type 0 where
@@ -71,7 +71,7 @@ Tells (Refused q) c m s o = o ≡ refused (space_of q)
 abbrev pub KeptOf : How → Counts → Mem → Mem → Type 0
 KeptOf Went c m m' = Unit {0}
 KeptOf (Ended e) c m m' = Unit {0}
-KeptOf (Refused q) c m m' = (d : Depths) (s : St.State) → state_of (withDepths d c) m' s ≡ state_of (withDepths d c) m s
+KeptOf (Refused q) c m m' = (d : Depths) (s : St.State) → state_of (with_depths d c) m' s ≡ state_of (with_depths d c) m s
 
 -- THE CONTRACT: over every state s of which H holds, the program p comes to what the answer says.
 pub record Turns (H : St.State → Type 0) (p : Program) (c : Counts) (m : Mem) (t : Turned) (m' : Mem) : Type 0 where

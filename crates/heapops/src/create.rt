@@ -2,7 +2,7 @@
 ghost use Rattle.std.specs.Prelude.{◌≡◌, List, ℕ, ◌≤◌, length};
 ghost use Rattle.machine.specs.Instruction.{CreateObject, CreateArray};
 ghost use Rattle.stacks.specs.View.{Ready};
-ghost use Rattle.texts.specs.Keeps.{textLimit};
+ghost use Rattle.texts.specs.Keeps.{text_limit};
 ghost use Rattle.heap.specs.View.{Sized};
 ghost use Rattle.outcome.specs.Meets.{Any, registers};
 ghost use Rattle.fetch.specs.Running.{Runs, Coded};
@@ -68,7 +68,7 @@ pub fn create_array(
     requires runs { Runs x c.depths stacks.old }
     requires code_in_bounds { c.code ≤ length code.now }
     requires sized { Sized c.sizes heap.old }
-    requires text_le_text_limit { (c.text ≤ textLimit) × (length text.old ≡ textLimit) }
+    requires text_le_text_limit { (c.text ≤ text_limit) × (length text.old ≡ text_limit) }
     ensures { (o : List ℕ) → Turns (Coded x c.code code.now) CreateArray c (mem stacks.old heap.old text.old o) result (mem stacks.new heap.new text.new o) }
 {
     let Fetched::Got(count, d) = fetch(x, c.depths, code, c.code) else {

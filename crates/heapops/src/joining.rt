@@ -3,7 +3,7 @@ ghost use Rattle.std.specs.Prelude.{◌≡◌, List, ℕ, ◌≤◌, length};
 ghost use Rattle.machine.specs.Instruction.{Typeof};
 ghost use Rattle.value.specs.Words.{value_of};
 ghost use Rattle.stacks.specs.View.{Ready};
-ghost use Rattle.texts.specs.Keeps.{textLimit};
+ghost use Rattle.texts.specs.Keeps.{text_limit};
 ghost use Rattle.outcome.specs.Meets.{Any, joins};
 ghost use Rattle.heapops.specs.Turns.{Turns, mem, Loaded};
 ghost use Rattle.heapops.specs.Makes.{PushesText};
@@ -41,7 +41,7 @@ pub fn join(
 ) -> Turned
     requires ready { Ready c.depths stacks.old }
     requires code_in_bounds { c.code ≤ length code.now }
-    requires text_le_text_limit { (c.text ≤ textLimit) × (length text.old ≡ textLimit) }
+    requires text_le_text_limit { (c.text ≤ text_limit) × (length text.old ≡ text_limit) }
     ensures { (h o : List ℕ) → Turns (Loaded c.code code.now) (joins (value_of a) (value_of b)) c (mem stacks.old h text.old o) result (mem stacks.new h text.new o) }
 {
     let k = spell::keep_joined(code, c.code, text, c.text, a, b);
@@ -51,7 +51,7 @@ pub fn join(
 pub fn type_of(c: Counts, code: &[u8], stacks: &mut [u64], text: &mut [u8]) -> Turned
     requires ready { Ready c.depths stacks.old }
     requires code_in_bounds { c.code ≤ length code.now }
-    requires text_le_text_limit { (c.text ≤ textLimit) × (length text.old ≡ textLimit) }
+    requires text_le_text_limit { (c.text ≤ text_limit) × (length text.old ≡ text_limit) }
     ensures { (h o : List ℕ) → Turns Any Typeof c (mem stacks.old h text.old o) result (mem stacks.new h text.new o) }
 {
     let Popped::Took(v, d) = stacks::pop(c.depths, stacks) else {

@@ -3,7 +3,7 @@
 
 ghost use Rattle.std.specs.Prelude.{◌≡◌};
 ghost use Rattle.outcome.specs.declared.End.TheVariants.{Failed};
-ghost use Rattle.heapops.specs.Turns.{freshCounts, withDepths, turned, settledIn};
+ghost use Rattle.heapops.specs.Turns.{fresh_counts, with_depths, turned, settled_in};
 ghost use Rattle.heapops.specs.declared.How.TheVariants.{Went, Ended, Refused};
 
 use heap::Sizes;
@@ -31,7 +31,7 @@ pub struct Counts {
 impl Counts {
     // The fresh engine's, with what clear leaves of the heap: nothing else is in use.
     pub fn fresh(sizes: Sizes) -> Counts
-        ensures { result ≡ freshCounts sizes }
+        ensures { result ≡ fresh_counts sizes }
     {
         Counts {
             depths: Depths {
@@ -66,7 +66,7 @@ pub struct Turned {
 }
 
 pub fn with_depths(c: Counts, d: Depths) -> Counts
-    ensures { result ≡ withDepths d c }
+    ensures { result ≡ with_depths d c }
 {
     let mut e = c;
     e.depths = d;
@@ -92,7 +92,7 @@ pub fn refused(c: Counts, q: Space) -> Turned
 }
 
 pub fn failed(c: Counts, d: Depths, e: JsVmError) -> Turned
-    ensures { result ≡ turned (withDepths d c) (Ended (Failed e)) }
+    ensures { result ≡ turned (with_depths d c) (Ended (Failed e)) }
 {
     Turned {
         counts: with_depths(c, d),
@@ -102,7 +102,7 @@ pub fn failed(c: Counts, d: Depths, e: JsVmError) -> Turned
 
 // The end of an instruction whose last act is a push.
 pub fn settle_push(c: Counts, r: Made) -> Turned
-    ensures { result ≡ settledIn c r }
+    ensures { result ≡ settled_in c r }
 {
     match r {
         Made::Went(d) => went(with_depths(c, d)),

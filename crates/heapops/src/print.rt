@@ -1,8 +1,8 @@
 //! The rest of a Call whose callee is an object, known or not: its arguments are printed.
 ghost use Rattle.std.specs.Prelude.{◌≡◌, List, ℕ, ◌+◌, ◌≤◌, length};
-ghost use Rattle.machine.specs.State.{operandLimit};
+ghost use Rattle.machine.specs.State.{operand_limit};
 ghost use Rattle.stacks.specs.View.{Ready, arguments};
-ghost use Rattle.texts.specs.Keeps.{outputLimit};
+ghost use Rattle.texts.specs.Keeps.{output_limit};
 ghost use Rattle.texts.specs.Sources.{InUse};
 ghost use Rattle.outcome.specs.Meets.{prints};
 ghost use Rattle.heapops.specs.Turns.{Turns, mem, Loaded};
@@ -20,9 +20,9 @@ pub fn print<'a>(
     output: &mut [u8],
 ) -> Turned
     requires ready { Ready c.depths stacks.old }
-    requires argc_bound { c.depths.operands + 1 + argc ≤ operandLimit }
+    requires argc_bound { c.depths.operands + 1 + argc ≤ operand_limit }
     requires in_use { InUse code.now c.code text.now c.text }
-    requires output_le_output_limit { (c.output ≤ outputLimit) × (length output.old ≡ outputLimit) }
+    requires output_le_output_limit { (c.output ≤ output_limit) × (length output.old ≡ output_limit) }
     ensures { (h : List ℕ) → Turns (Loaded c.code code.now) (prints (arguments stacks.old (c.depths.operands + 1) argc)) c (mem stacks.old h text.now output.old) result (mem stacks.new h text.now output.new) }
 {
     let d = c.depths;

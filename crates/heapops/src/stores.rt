@@ -2,11 +2,11 @@
 ghost use Rattle.std.specs.Prelude.{◌≡◌, List, ℕ, ◌≤◌, length};
 ghost use Rattle.machine.specs.Instruction.{StoreGlobal, StoreProperty, StoreIndex};
 ghost use Rattle.stacks.specs.View.{Ready};
-ghost use Rattle.texts.specs.Keeps.{textLimit};
+ghost use Rattle.texts.specs.Keeps.{text_limit};
 ghost use Rattle.heap.specs.View.{Sized};
 ghost use Rattle.fetch.specs.Running.{Runs};
 ghost use Rattle.readops.specs.Holds.{Constants};
-ghost use Rattle.heapops.specs.Turns.{Turns, mem, Loaded, placedIn};
+ghost use Rattle.heapops.specs.Turns.{Turns, mem, Loaded, placed_in};
 
 use crate::{Counts, Turned, failed, refused, went};
 use fetch::{Fetched, Running, fetch_word, past_end};
@@ -20,7 +20,7 @@ use value::JsVmError;
 
 // The end of an instruction whose last act is on the heap and the text; d is what it leaves of the stacks.
 pub(crate) fn settle_placed(c: Counts, d: Depths, r: Placed) -> Turned
-    ensures { result ≡ placedIn c d r }
+    ensures { result ≡ placed_in c d r }
 {
     match r {
         Placed::Refused(q) => refused(c, q),
@@ -47,7 +47,7 @@ pub fn store_global(
     requires runs { Runs x c.depths stacks.now }
     requires code_in_bounds { c.code ≤ length code.now }
     requires sized { Sized c.sizes heap.old }
-    requires text_le_text_limit { (c.text ≤ textLimit) × (length text.old ≡ textLimit) }
+    requires text_le_text_limit { (c.text ≤ text_limit) × (length text.old ≡ text_limit) }
     ensures { (o : List ℕ) → Turns (Constants x c.code code.now places.now) StoreGlobal c (mem stacks.now heap.old text.old o) result (mem stacks.now heap.new text.new o) }
 {
     let Fetched::Got(i, d) = fetch_word(x, c.depths, code, c.code) else {
@@ -75,7 +75,7 @@ pub fn store_property(
     requires runs { Runs x c.depths stacks.now }
     requires code_in_bounds { c.code ≤ length code.now }
     requires sized { Sized c.sizes heap.old }
-    requires text_le_text_limit { (c.text ≤ textLimit) × (length text.old ≡ textLimit) }
+    requires text_le_text_limit { (c.text ≤ text_limit) × (length text.old ≡ text_limit) }
     ensures { (o : List ℕ) → Turns (Constants x c.code code.now places.now) StoreProperty c (mem stacks.now heap.old text.old o) result (mem stacks.now heap.new text.new o) }
 {
     let Fetched::Got(i, d) = fetch_word(x, c.depths, code, c.code) else {
@@ -102,7 +102,7 @@ pub fn store_index(
     requires ready { Ready c.depths stacks.now }
     requires code_in_bounds { c.code ≤ length code.now }
     requires sized { Sized c.sizes heap.old }
-    requires text_le_text_limit { (c.text ≤ textLimit) × (length text.old ≡ textLimit) }
+    requires text_le_text_limit { (c.text ≤ text_limit) × (length text.old ≡ text_limit) }
     ensures { (o : List ℕ) → Turns (Loaded c.code code.now) StoreIndex c (mem stacks.now heap.old text.old o) result (mem stacks.now heap.new text.new o) }
 {
     let Popped::Took(v, d) = stacks::pop(c.depths, stacks) else {

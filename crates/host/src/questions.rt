@@ -1,13 +1,13 @@
 //! The questions on the way in that are asked of the stores and of what the host gives: 33, 29 and 30.
 ghost use Rattle.std.specs.Prelude.{◌≡◌, ◌≤◌, length};
-ghost use Rattle.machine.specs.Basic.{isAscii};
+ghost use Rattle.machine.specs.Basic.{is_ascii};
 ghost use Rattle.machine.specs.Host as Host;
 ghost use Rattle.value.specs.Words.{value_of};
 ghost use Rattle.texts.specs.Sources.{InUse, stores_of};
 ghost use Rattle.heapops.specs.Turns.{mem};
 ghost use Rattle.finish.specs.Parts.{tables};
-ghost use Rattle.host.specs.Calls.{sizesAre, countsRight, lent as areLent};
-ghost use Rattle.host.specs.Inside.{insideOf};
+ghost use Rattle.host.specs.Calls.{sizes_are, counts_right, lent as are_lent};
+ghost use Rattle.host.specs.Inside.{inside_of};
 
 use heapops::Counts;
 use value::Value;
@@ -23,7 +23,7 @@ pub fn listed(
     text: usize,
     output: usize,
 ) -> bool
-    ensures { result ≡ sizesAre code places rows starts stacks heap text output }
+    ensures { result ≡ sizes_are code places rows starts stacks heap text output }
 {
     if code != image::CODE_BYTES {
         return false;
@@ -51,7 +51,7 @@ pub fn listed(
 
 // Are the counts within the stores? No call leaves others.
 fn within(c: Counts) -> bool
-    ensures { result ≡ countsRight c }
+    ensures { result ≡ counts_right c }
 {
     let d = c.depths;
     let z = c.sizes;
@@ -103,7 +103,7 @@ pub fn lent(
     output: &[u8],
     c: Counts,
 ) -> bool
-    ensures { result ≡ areLent c (tables code.now places.now rows.now starts.now) (mem stacks.now heap.now text.now output.now) }
+    ensures { result ≡ are_lent c (tables code.now places.now rows.now starts.now) (mem stacks.now heap.now text.now output.now) }
 {
     if listed(
         code.len(),
@@ -123,7 +123,7 @@ pub fn lent(
 // Question 30: a text handle is inside the bytes in use, and these are below 128.
 pub fn handle_fine<'a>(code: &'a [u8], n: usize, text: &'a [u8], m: usize, v: Value) -> bool
     requires { InUse code.now n text.now m }
-    ensures { result ≡ Host.handleFine (stores_of code.now n text.now m) (value_of v) }
+    ensures { result ≡ Host.handle_fine (stores_of code.now n text.now m) (value_of v) }
 {
     match v {
         Value::Undefined => true,
@@ -139,7 +139,7 @@ pub fn handle_fine<'a>(code: &'a [u8], n: usize, text: &'a [u8], m: usize, v: Va
 
 fn inside(store: &[u8], n: usize, at: u64, size: u64) -> bool
     requires { n ≤ length store.now }
-    ensures { result ≡ insideOf store.now n at size }
+    ensures { result ≡ inside_of store.now n at size }
 {
     if (n as u64) < at {
         return false;
@@ -155,7 +155,7 @@ fn inside(store: &[u8], n: usize, at: u64, size: u64) -> bool
 
 // Question 29.
 pub fn is_ascii(s: &[u8]) -> bool
-    ensures { result ≡ isAscii s.now }
+    ensures { result ≡ is_ascii s.now }
 {
     let mut i: usize = 0;
     while i < s.len() {

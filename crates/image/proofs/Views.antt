@@ -8,13 +8,13 @@ use lib.Seq.{get_or-set_same, get_or-set_other}
 use Rattle.machine.specs.Image as I
 use Rattle.machine.specs.Image.{Constant}
 use Rattle.reader.specs.Says.{Reads, Heads, Tails}
-use Rattle.reader.specs.Laws.{prefixed, prefixed-none, times-step, times-end, templates-step, templates-end, template-got}
+use Rattle.reader.specs.Laws.{prefixed, prefixed_none, times_step, times_end, templates_step, templates_end, template_got}
 use Rattle.reader.specs.declared.Step.{Step}
 use Rattle.reader.specs.declared.Step.TheVariants.{Next, Stop}
-use Rattle.image.specs.View.{constantAt, constantsOf, templateAt, templatesAt, imageAt, Same}
+use Rattle.image.specs.View.{constant_at, constants_of, template_at, templates_at, image_at, Same}
 use Rattle.image.specs.Fills.{Filled, Rowed, FilledOne, FilledAll, FillsAll, FillsImage}
 use Rattle.image.specs.declared.FunctionTemplate.{FunctionTemplate}
-use Rattle.image.proofs.Lists.{list-more, same_refl, same-trans, same-less, same_set, unset-below, unset-at}
+use Rattle.image.proofs.Lists.{list_more, same_refl, same_trans, same_less, same_set, unset_below, unset_at}
 use Rattle.image.proofs.Back.{read_at}
 
 -- The loop over a template's constants: i of n have their places in the table.
@@ -26,48 +26,48 @@ pub record Placing (s ps₀ ps : List ℕ) (own count at n p i : ℕ) : Type 0 w
   pub placed : Same at ps₀ ps
   pub is : (code places : List ℕ) → Same p s code → Same (at + i) ps places
       → I.times n (I.constant own count) at (drop at s)
-      ≡ prefixed (constantsOf code places at i) (I.times (n - i) (I.constant own count) p (drop p s))
+      ≡ prefixed (constants_of code places at i) (I.times (n - i) (I.constant own count) p (drop p s))
 
-pub placing-start : (s ps : List ℕ) (own count at n : ℕ) → at ≤ length s → Placing s ps ps own count at n at 0
-unfolding constantsOf
-placing-start s ps own count at n h = record {
+pub placing_start : (s ps : List ℕ) (own count at n : ℕ) → at ≤ length s → Placing s ps ps own count at n at 0
+unfolding constants_of
+placing_start s ps own count at n h = record {
   few = omega arith;
   room = omega arith;
   inside = h;
   sized = refl;
   placed = same_refl;
-  is = λ code places f g. let e : n - 0 ≡ n = omega arith in rw e (prefixed-none _);
+  is = λ code places f g. let e : n - 0 ≡ n = omega arith in rw e (prefixed_none _);
 }
 
-constants-more : (s places : List ℕ) (c i p : ℕ) (k : Constant) → get_or places (c + i) 0 ≡ p → constantAt s p ≡ k
-    → constantsOf s places c (i + 1) ≡ constantsOf s places c i ++ (k ∷ [])
-unfolding constantsOf
-constants-more s places c i p k e f = list-more (λ k. constantAt s (get_or places (c + k) 0)) i ∙ rw (e, f)
+constants_more : (s places : List ℕ) (c i p : ℕ) (k : Constant) → get_or places (c + i) 0 ≡ p → constant_at s p ≡ k
+    → constants_of s places c (i + 1) ≡ constants_of s places c i ++ (k ∷ [])
+unfolding constants_of
+constants_more s places c i p k e f = list_more (λ k. constant_at s (get_or places (c + k) 0)) i ∙ rw (e, f)
 
-pub placing-step : (s ps₀ ps : List ℕ) (own count at n p i q : ℕ) (k : Constant) → i < n → at + i < length ps → p < q
+pub placing_step : (s ps₀ ps : List ℕ) (own count at n p i q : ℕ) (k : Constant) → i < n → at + i < length ps → p < q
     → Placing s ps₀ ps own count at n p i → Reads s p (I.constant own count) k q
     → Placing s ps₀ (set ps (at + i) p) own count at n q (i + 1)
-placing-step s ps₀ ps own count at n p i q k l b m h g = record {
+placing_step s ps₀ ps own count at n p i q k l b m h g = record {
   few = omega arith;
   room = omega (arith, h.room);
   inside = g.inside;
   sized = simp length-set h.sized;
-  placed = same-trans h.placed (same_set at ps (at + i) p (omega arith));
+  placed = same_trans h.placed (same_set at ps (at + i) p (omega arith));
   is = λ code places f w.
       let e : at + (i + 1) ≡ at + i + 1 = omega arith in
       let w' : Same (at + i + 1) (set ps (at + i) p) places = rw e at w in
-      h.is code places (same-less (omega arith) f) (unset-below ps places (at + i) p w')
-      ∙ times-step s (I.constant own count) (constantsOf code places at i) p k q (n - i) (n - (i + 1)) (omega arith) g
-      ∙ rw (constants-more code places at i p k (unset-at ps places (at + i) p w' b) (read_at s code p q own count k m f g));
+      h.is code places (same_less (omega arith) f) (unset_below ps places (at + i) p w')
+      ∙ times_step s (I.constant own count) (constants_of code places at i) p k q (n - i) (n - (i + 1)) (omega arith) g
+      ∙ rw (constants_more code places at i p k (unset_at ps places (at + i) p w' b) (read_at s code p q own count k m f g));
 }
 
-pub placing-end : (s ps₀ ps : List ℕ) (own count at n p i : ℕ) → n ≤ i → Placing s ps₀ ps own count at n p i → Filled s ps₀ ps at n own count p
-placing-end s ps₀ ps own count at n p i l h =
+pub placing_end : (s ps₀ ps : List ℕ) (own count at n p i : ℕ) → n ≤ i → Placing s ps₀ ps own count at n p i → Filled s ps₀ ps at n own count p
+placing_end s ps₀ ps own count at n p i l h =
     let e : i ≡ n = omega (arith, h.few) in
     record {
       reads = λ code places f g. record {
-        read = h.is code places f (same-less h.room g)
-            ∙ times-end s (I.constant own count) (constantsOf code places at i) p (n - i) (drop p s) (omega arith) ∙ rw e;
+        read = h.is code places f (same_less h.room g)
+            ∙ times_end s (I.constant own count) (constants_of code places at i) p (n - i) (drop p s) (omega arith) ∙ rw e;
         on = omega (arith, h.room);
         inside = h.inside;
       };
@@ -119,11 +119,11 @@ row_put xs r t h =
     }
 
 -- A template from its parts, in any lines that agree with its row.
-template-is : (code places rows rows' lines : List ℕ) (r : ℕ) (t : FunctionTemplate) → Rowed rows rows' r t → Same (r + 8) rows' lines
-    → templateAt code places lines r
-    ≡ record { parameters = t.param_count; locals = t.local_count; constants = constantsOf code places t.constants t.constant_count; at = t.at; size = t.size }
-unfolding templateAt
-template-is code places rows rows' lines r t h f =
+template_is : (code places rows rows' lines : List ℕ) (r : ℕ) (t : FunctionTemplate) → Rowed rows rows' r t → Same (r + 8) rows' lines
+    → template_at code places lines r
+    ≡ record { parameters = t.param_count; locals = t.local_count; constants = constants_of code places t.constants t.constant_count; at = t.at; size = t.size }
+unfolding template_at
+template_is code places rows rows' lines r t h f =
     rw (
       f.same r (omega arith) ∙ h.at0,
       f.same (r + 1) (omega arith) ∙ h.at1,
@@ -142,11 +142,11 @@ fill_one {s} {ps} {rows} {ps'} {rows'} {at} {r} {own} {count} {a} {b} {n} {p} {m
     let l : m ≤ next = omega (arith, t.on) in
     record {
       reads = λ code places lines e f k.
-          rw (template-is code places rows rows' lines r (record { param_count = a; local_count = b; constants = p; constant_count = n; at = place; size = size }) w k)
-          (template-got s own count at a b n p h (constantsOf code places p n) m size place next (g.reads code places (same-less l e) (same-less l f)) t);
+          rw (template_is code places rows rows' lines r (record { param_count = a; local_count = b; constants = p; constant_count = n; at = place; size = size }) w k)
+          (template_got s own count at a b n p h (constants_of code places p n) m size place next (g.reads code places (same_less l e) (same_less l f)) t);
       room = omega (arith, h.on, g.room, t.on);
       inside = t.second.inside;
-      placed = same-less (omega (arith, h.on)) g.placed;
+      placed = same_less (omega (arith, h.on)) g.placed;
       rowed = w.below;
     }
 
@@ -156,31 +156,31 @@ pub record Filling (s ps₀ rows₀ ps rows : List ℕ) (count at r p own : ℕ)
   pub row : r ≡ at + 8 * own
   pub room : r ≤ p
   pub inside : p ≤ length s
-  pub ps-sized : length ps ≡ length ps₀
-  pub rows-sized : length rows ≡ length rows₀
+  pub ps_sized : length ps ≡ length ps₀
+  pub rows_sized : length rows ≡ length rows₀
   pub placed : Same at ps₀ ps
   pub rowed : Same at rows₀ rows
   pub is : (code places lines : List ℕ) → Same p s code → Same p ps places → Same r rows lines
-      → I.templates count 0 count at (drop at s) ≡ prefixed (templatesAt code places lines at own) (I.templates count own (count - own) p (drop p s))
+      → I.templates count 0 count at (drop at s) ≡ prefixed (templates_at code places lines at own) (I.templates count own (count - own) p (drop p s))
 
-pub filling-start : (s ps rows : List ℕ) (count at : ℕ) → at ≤ length s → Filling s ps rows ps rows count at at at 0
-unfolding templatesAt
-filling-start s ps rows count at h = record {
+pub filling_start : (s ps rows : List ℕ) (count at : ℕ) → at ≤ length s → Filling s ps rows ps rows count at at at 0
+unfolding templates_at
+filling_start s ps rows count at h = record {
   few = omega arith;
   row = omega arith;
   room = omega arith;
   inside = h;
-  ps-sized = refl;
-  rows-sized = refl;
+  ps_sized = refl;
+  rows_sized = refl;
   placed = same_refl;
   rowed = same_refl;
-  is = λ code places lines f g w. let e : count - 0 ≡ count = omega arith in rw e (prefixed-none _);
+  is = λ code places lines f g w. let e : count - 0 ≡ count = omega arith in rw e (prefixed_none _);
 }
 
-templates-more : (code places lines : List ℕ) (at own r : ℕ) → r ≡ at + 8 * own
-    → templatesAt code places lines at (own + 1) ≡ templatesAt code places lines at own ++ (templateAt code places lines r ∷ [])
-unfolding templatesAt
-templates-more code places lines at own r e = rw e (list-more (λ t. templateAt code places lines (at + 8 * t)) own)
+templates_more : (code places lines : List ℕ) (at own r : ℕ) → r ≡ at + 8 * own
+    → templates_at code places lines at (own + 1) ≡ templates_at code places lines at own ++ (template_at code places lines r ∷ [])
+unfolding templates_at
+templates_more code places lines at own r e = rw e (list_more (λ t. template_at code places lines (at + 8 * t)) own)
 
 pub filling_step : {s ps₀ rows₀ ps rows ps' rows' : List ℕ} {count at r p own q : ℕ} → own < count
     → Filling s ps₀ rows₀ ps rows count at r p own → FilledOne s ps rows ps' rows' p r own count q
@@ -191,26 +191,26 @@ filling_step {s} {ps₀} {rows₀} {ps} {rows} {ps'} {rows'} {count} {at} {r} {p
   row = omega (arith, h.row);
   room = omega (arith, h.room, g.room);
   inside = g.inside;
-  ps-sized = lp ∙ h.ps-sized;
-  rows-sized = lr ∙ h.rows-sized;
-  placed = same-trans h.placed (same-less (omega (arith, h.row, h.room)) g.placed);
-  rowed = same-trans h.rowed (same-less (omega (arith, h.row)) g.rowed);
+  ps_sized = lp ∙ h.ps_sized;
+  rows_sized = lr ∙ h.rows_sized;
+  placed = same_trans h.placed (same_less (omega (arith, h.row, h.room)) g.placed);
+  rowed = same_trans h.rowed (same_less (omega (arith, h.row)) g.rowed);
   is = λ code places lines e f w.
-      h.is code places lines (same-less (omega (arith, g.room)) e) (same-trans g.placed (same-less (omega (arith, g.room)) f))
-      (same-trans g.rowed (same-less (omega arith) w))
-      ∙ templates-step s count own (templatesAt code places lines at own) p (templateAt code places lines r) q (count - own) (count - (own + 1)) (omega arith)
+      h.is code places lines (same_less (omega (arith, g.room)) e) (same_trans g.placed (same_less (omega (arith, g.room)) f))
+      (same_trans g.rowed (same_less (omega arith) w))
+      ∙ templates_step s count own (templates_at code places lines at own) p (template_at code places lines r) q (count - own) (count - (own + 1)) (omega arith)
       (g.reads code places lines e f w)
-      ∙ rw (templates-more code places lines at own r h.row);
+      ∙ rw (templates_more code places lines at own r h.row);
 }
 
-pub filling-end : {s ps₀ rows₀ ps rows : List ℕ} {count at r p own : ℕ} → count ≤ own
+pub filling_end : {s ps₀ rows₀ ps rows : List ℕ} {count at r p own : ℕ} → count ≤ own
     → Filling s ps₀ rows₀ ps rows count at r p own → FilledAll s ps₀ rows₀ ps rows at count p
-filling-end {s} {ps₀} {rows₀} {ps} {rows} {count} {at} {r} {p} {own} l h =
+filling_end {s} {ps₀} {rows₀} {ps} {rows} {count} {at} {r} {p} {own} l h =
     let e : own ≡ count = omega (arith, h.few) in
     record {
       reads = λ code places lines f g w. record {
-        read = h.is code places lines f g (same-less h.room w)
-            ∙ templates-end s count own (templatesAt code places lines at own) p (count - own) (drop p s) (omega arith) ∙ rw e;
+        read = h.is code places lines f g (same_less h.room w)
+            ∙ templates_end s count own (templates_at code places lines at own) p (count - own) (drop p s) (omega arith) ∙ rw e;
         on = omega (arith, h.row, h.room);
         inside = h.inside;
       };
@@ -221,16 +221,16 @@ filling-end {s} {ps₀} {rows₀} {ps} {rows} {count} {at} {r} {p} {own} l h =
     }
 
 -- An image filled: its count of templates stands at its own place.
-pub fill-image : (s ps rows ps' rows' : List ℕ) (at n p : ℕ) (x : Step) → Reads s at I.word n p → p ≡ at + 2 → at < length rows
+pub fill_image : (s ps rows ps' rows' : List ℕ) (at n p : ℕ) (x : Step) → Reads s at I.word n p → p ≡ at + 2 → at < length rows
     → FillsAll s ps (set rows at n) ps' rows' p n x → FillsImage s ps rows ps' rows' at x
-unfolding imageAt
-fill-image s ps rows ps' rows' at n p (Next c) h e l g = record {
+unfolding image_at
+fill_image s ps rows ps' rows' at n p (Next c) h e l g = record {
   reads = λ code places lines f k w.
       let d : get_or lines at 0 ≡ n = w.same at (omega (arith, g.on)) ∙ g.rowed.same at (omega arith) ∙ get_or-set_same rows at n 0 l in
-      let r : Reads s p (I.templates n 0 n) (templatesAt code places lines p n) c.at = g.reads code places lines f k w in
+      let r : Reads s p (I.templates n 0 n) (templates_at code places lines p n) c.at = g.reads code places lines f k w in
       record { read = rw (d, ← e, h.read) r.read; on = omega (arith, r.on); inside = r.inside };
   inside = g.inside;
-  placed = same-less (omega arith) g.placed;
-  rowed = same-trans (same_set at rows at n (omega arith)) (same-less (omega arith) g.rowed);
+  placed = same_less (omega arith) g.placed;
+  rowed = same_trans (same_set at rows at n (omega arith)) (same_less (omega arith) g.rowed);
 }
-fill-image s ps rows ps' rows' at n p (Stop q) h e l g = rw h.read g
+fill_image s ps rows ps' rows' at n p (Stop q) h e l g = rw h.read g

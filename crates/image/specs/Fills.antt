@@ -6,13 +6,13 @@ use Rattle.machine.specs.Image.{Reader, Template, ◌>>=◌}
 use Rattle.reader.specs.Says.{Reads, Refuses}
 use Rattle.reader.specs.declared.Step.{Step}
 use Rattle.reader.specs.declared.Step.TheVariants.{Next, Stop}
-use Rattle.image.specs.View.{Same, constantsOf, templateAt, templatesAt, imageAt}
+use Rattle.image.specs.View.{Same, constants_of, template_at, templates_at, image_at}
 use Rattle.image.specs.declared.FunctionTemplate.{FunctionTemplate}
 
 -- ps and rows are the tables as they were, ps' and rows' as they are.
 pub record Filled (s ps ps' : List ℕ) (at n own count next : ℕ) : Type 0 where
   pub reads : (code places : List ℕ) → Same next s code → Same next ps' places
-      → Reads s at (I.times n (I.constant own count)) (constantsOf code places at n) next
+      → Reads s at (I.times n (I.constant own count)) (constants_of code places at n) next
   pub room : at + n ≤ next
   pub inside : next ≤ length s
   pub placed : Same at ps ps'
@@ -37,7 +37,7 @@ pub record Rowed (rows rows' : List ℕ) (r : ℕ) (t : FunctionTemplate) : Type
 
 pub record FilledOne (s ps rows ps' rows' : List ℕ) (at r own count next : ℕ) : Type 0 where
   pub reads : (code places lines : List ℕ) → Same next s code → Same next ps' places → Same (r + 8) rows' lines
-      → Reads s at (I.template own count) (templateAt code places lines r) next
+      → Reads s at (I.template own count) (template_at code places lines r) next
   pub room : at + 8 ≤ next
   pub inside : next ≤ length s
   pub placed : Same at ps ps'
@@ -49,7 +49,7 @@ FillsOne s ps rows ps' rows' at r own count (Stop q) = Refuses s at (I.template 
 
 pub record FilledAll (s ps rows ps' rows' : List ℕ) (at count next : ℕ) : Type 0 where
   pub reads : (code places lines : List ℕ) → Same next s code → Same next ps' places → Same next rows' lines
-      → Reads s at (I.templates count 0 count) (templatesAt code places lines at count) next
+      → Reads s at (I.templates count 0 count) (templates_at code places lines at count) next
   pub inside : next ≤ length s
   pub on : at ≤ next
   pub placed : Same at ps ps'
@@ -65,7 +65,7 @@ unasked = I.word >>= λ n. I.templates n 0 n
 
 pub record FilledImage (s ps rows ps' rows' : List ℕ) (at next : ℕ) : Type 0 where
   pub reads : (code places lines : List ℕ) → Same next s code → Same next ps' places → Same next rows' lines
-      → Reads s at unasked (imageAt code places lines at) next
+      → Reads s at unasked (image_at code places lines at) next
   pub inside : next ≤ length s
   pub placed : Same at ps ps'
   pub rowed : Same at rows rows'

@@ -3,14 +3,14 @@ use Rattle.std.specs.Prelude.{◌≡◌, Bool, true, false, ◌&&◌, List, [], 
 use Rattle.std.proofs.Math.Option.{Option, none, some}
 use Rattle.machine.specs.Image as I
 use Rattle.machine.specs.Image.{Template}
-use Rattle.machine.specs.State.{State, limit, codeStore, imageStore}
-use Rattle.machine.specs.Act.{templatesRead}
-use Rattle.machine.specs.Fields.{set_code, setImages}
-use Rattle.machine.specs.Host.{refusalRead}
+use Rattle.machine.specs.State.{State, limit, code_store, image_store}
+use Rattle.machine.specs.Act.{templates_read}
+use Rattle.machine.specs.Fields.{set_code, set_images}
+use Rattle.machine.specs.Host.{refusal_read}
 use Rattle.machine.specs.Host as H
 use Rattle.machine.specs.Host.{Answer, refusal, numbered, perform}
 use Rattle.reader.specs.Constants.{constant_of}
-use Rattle.image.specs.View.{Same, constantsOf, imagesOf}
+use Rattle.image.specs.View.{Same, constants_of, images_of}
 use Rattle.image.specs.declared.ImageCounts.{ImageCounts}
 use Rattle.image.specs.declared.Loaded.{Loaded}
 use Rattle.image.specs.declared.Loaded.TheVariants.{Done, Refused}
@@ -28,12 +28,12 @@ pub record Stores : Type 0 where
   pub starts : List ℕ
 
 -- Question 33, of the four lengths.
-abbrev pub sizesListed : ℕ → ℕ → ℕ → ℕ → Bool
-sizesListed code places rows starts =
-    eqb code (limit codeStore) && eqb places (limit codeStore) && eqb rows (limit codeStore) && eqb starts (limit imageStore)
+abbrev pub sizes_listed : ℕ → ℕ → ℕ → ℕ → Bool
+sizes_listed code places rows starts =
+    eqb code (limit code_store) && eqb places (limit code_store) && eqb rows (limit code_store) && eqb starts (limit image_store)
 
 abbrev pub listed : Stores → Bool
-listed x = sizesListed (length x.code) (length x.places) (length x.rows) (length x.starts)
+listed x = sizes_listed (length x.code) (length x.places) (length x.rows) (length x.starts)
 
 -- The questions in order: 33, then 1 to 7 of the image alone, then 8, then 9.
 abbrev pub or_else : Option ℕ → Option ℕ → Option ℕ
@@ -45,24 +45,24 @@ unless true q = none
 unless false q = some q
 
 -- Questions 8 and 9.
-abbrev pub spaceRefusal : ImageCounts → ℕ → Option ℕ
-spaceRefusal c n = or_else (unless (leb (c.code + n) (limit codeStore)) 8) (unless (leb (c.images + 1) (limit imageStore)) 9)
+abbrev pub space_refusal : ImageCounts → ℕ → Option ℕ
+space_refusal c n = or_else (unless (leb (c.code + n) (limit code_store)) 8) (unless (leb (c.images + 1) (limit image_store)) 9)
 
 abbrev pub space_of : Space → Option ℕ
 space_of Free = none
 space_of (Full q) = some q
 
-abbrev pub loadRefusal : Bool → ImageCounts → List ℕ → Option ℕ
-loadRefusal sized c bs =
+abbrev pub load_refusal : Bool → ImageCounts → List ℕ → Option ℕ
+load_refusal sized c bs =
     or_else (unless sized 33)
-    (or_else (refusalRead (I.image c.code bs)) (spaceRefusal c (length bs)))
+    (or_else (refusal_read (I.image c.code bs)) (space_refusal c (length bs)))
 
 abbrev pub images : Stores → ℕ → List (List Template)
-images x n = imagesOf x.code x.places x.rows x.starts n
+images x n = images_of x.code x.places x.rows x.starts n
 
 -- The machine's state with the code and the images that the stores hold.
 abbrev pub shown : Stores → ImageCounts → State → State
-shown x c s = set_code (take c.code x.code) (setImages (images x c.images) s)
+shown x c s = set_code (take c.code x.code) (set_images (images x c.images) s)
 
 -- y has what x has in use.
 pub record Agree (c : ImageCounts) (x y : Stores) : Type 0 where
@@ -81,19 +81,19 @@ abbrev pub answer_of : Loaded → Answer
 answer_of (Done i d) = numbered i
 answer_of (Refused q) = refusal q
 
-abbrev pub refusalOf : Loaded → Option ℕ
-refusalOf (Done i d) = none
-refusalOf (Refused q) = some q
+abbrev pub refusal_of : Loaded → Option ℕ
+refusal_of (Done i d) = none
+refusal_of (Refused q) = some q
 
-abbrev pub countsOf : ImageCounts → Loaded → ImageCounts
-countsOf c (Done i d) = d
-countsOf c (Refused q) = c
+abbrev pub counts_of : ImageCounts → Loaded → ImageCounts
+counts_of c (Done i d) = d
+counts_of c (Refused q) = c
 
 -- x as the call found the stores, y as it left them. An accepted image is behind those that were there.
 pub record Appends (x y : Stores) (c : ImageCounts) (bs : List ℕ) (d : ImageCounts) : Type 0 where
   pub counts : d ≡ record { code = c.code + length bs; images = c.images + 1 }
   pub code : take d.code y.code ≡ take c.code x.code ++ bs
-  pub view : Sound x c → images y d.images ≡ images x c.images ++ (templatesRead (I.image c.code bs) ∷ [])
+  pub view : Sound x c → images y d.images ≡ images x c.images ++ (templates_read (I.image c.code bs) ∷ [])
   pub sound : Sound x c → Sound y d
 
 -- A refusal alters nothing, not even a place above a count.
@@ -103,33 +103,33 @@ Leaves x y c bs (Refused q) = y ≡ x
 
 -- `machine`: the answer and what is left are those of the machine's call. `older`: images that were there are as they were.
 pub record Loads (x y : Stores) (c : ImageCounts) (bs : List ℕ) (r : Loaded) : Type 0 where
-  pub asked : refusalOf r ≡ loadRefusal (listed x) c bs
+  pub asked : refusal_of r ≡ load_refusal (listed x) c bs
   pub leaves : Leaves x y c bs r
-  pub sound : Sound x c → Sound y (countsOf c r)
+  pub sound : Sound x c → Sound y (counts_of c r)
   pub machine : listed x ≡ true → Sound x c → (s : State)
-      → ((perform (H.load bs) (shown x c s)).answer ≡ answer_of r) × ((perform (H.load bs) (shown x c s)).after ≡ shown y (countsOf c r) s)
-  pub older : Sound x c → (i : ℕ) → i < c.images → get_or (images y (countsOf c r).images) i [] ≡ get_or (images x c.images) i []
+      → ((perform (H.load bs) (shown x c s)).answer ≡ answer_of r) × ((perform (H.load bs) (shown x c s)).after ≡ shown y (counts_of c r) s)
+  pub older : Sound x c → (i : ℕ) → i < c.images → get_or (images y (counts_of c r).images) i [] ≡ get_or (images x c.images) i []
 
 -- What `append`, the inner half of load, is called on and does: it never refuses.
 pub record Fitting (x : Stores) (c : ImageCounts) (bs : List ℕ) : Type 0 where
   pub sized : listed x ≡ true
-  pub good : refusalRead (I.image c.code bs) ≡ none
-  pub room : spaceRefusal c (length bs) ≡ none
+  pub good : refusal_read (I.image c.code bs) ≡ none
+  pub room : space_refusal c (length bs) ≡ none
 
 abbrev pub AppendSays : Stores → Stores → ImageCounts → List ℕ → Loaded → Type 0
 AppendSays x y c bs (Done i d) = (i ≡ c.images) × Appends x y c bs d
 AppendSays x y c bs (Refused q) = ⊥
 
 -- A template that was looked up, with the constants that it names.
-abbrev pub templateFrom : List ℕ → List ℕ → FunctionTemplate → Template
-templateFrom code places t = record {
+abbrev pub template_from : List ℕ → List ℕ → FunctionTemplate → Template
+template_from code places t = record {
   parameters = t.param_count;
   locals = t.local_count;
-  constants = constantsOf code places t.constants t.constant_count;
+  constants = constants_of code places t.constants t.constant_count;
   at = t.at;
   size = t.size;
 }
 
-abbrev pub foundOf : FoundConstant → Option I.Constant
-foundOf (Is k) = some (constant_of k)
-foundOf Missing = none
+abbrev pub found_of : FoundConstant → Option I.Constant
+found_of (Is k) = some (constant_of k)
+found_of Missing = none

@@ -2,19 +2,19 @@
 use Rattle.std.specs.Prelude.{◌≡◌}
 use Rattle.std.proofs.Math.Option.{Option}
 use Rattle.machine.specs.Image as Im
-use Rattle.image.specs.Load.{foundOf}
+use Rattle.image.specs.Load.{found_of}
 use Rattle.reader.specs.declared.Constant.{Constant}
 use Rattle.image.specs.declared.FoundConstant.{FoundConstant}
 use Rattle.image.specs.declared.FoundConstant.TheVariants.{Is, Missing}
 
 abbrev pub NearTold : Option Im.Constant → FoundConstant → Type 0
-NearTold o (Is c) = foundOf (Is c) ≡ o
+NearTold o (Is c) = found_of (Is c) ≡ o
 NearTold o Missing = Unit {0}
 
 pub record Nears (o : Option Im.Constant) (r : FoundConstant) : Type 0 where
   pub told : NearTold o r
 
 -- For callers: the constant that was found.
-pub near-is : {o : Option Im.Constant} {r : FoundConstant} {c : Constant} → Nears o r → r ≡ Is c → foundOf r ≡ o
-near-is {r = Is c} n e = n.told
-near-is {r = Missing} n e = cc
+pub near_is : {o : Option Im.Constant} {r : FoundConstant} {c : Constant} → Nears o r → r ≡ Is c → found_of r ≡ o
+near_is {r = Is c} n e = n.told
+near_is {r = Missing} n e = cc

@@ -13,43 +13,43 @@ list f (suc n) = list f n ++ (f n ∷ [])
 abbrev pub word_at : List ℕ → ℕ → ℕ
 word_at s p = get_or s p 0 * 256 + get_or s (p + 1) 0
 
-abbrev pub wideAt : List ℕ → ℕ → ℕ → ℕ → ℕ
-wideAt s zero n p = n
-wideAt s (suc k) n p = wideAt s k (n * 256 + get_or s p 0) (p + 1)
+abbrev pub wide_at : List ℕ → ℕ → ℕ → ℕ → ℕ
+wide_at s zero n p = n
+wide_at s (suc k) n p = wide_at s k (n * 256 + get_or s p 0) (p + 1)
 
 -- The constant of kind k that stands at place p of the code.
 abbrev pub constant_by : List ℕ → ℕ → ℕ → Constant
-constant_by s p k = get_or (Constant.number (wideAt s 8 0 (p + 1)) ∷ Constant.text (record { store = in_code; at = p + 3; size = word_at s (p + 1) })
+constant_by s p k = get_or (Constant.number (wide_at s 8 0 (p + 1)) ∷ Constant.text (record { store = in_code; at = p + 3; size = word_at s (p + 1) })
     ∷ Constant.boolean (eqb (get_or s (p + 1) 0) 1) ∷ Constant.null ∷ Constant.undefined ∷ Constant.function (word_at s (p + 1)) ∷ []) k Constant.undefined
 
 -- Its kind is the byte there.
-unfoldable pub constantAt : List ℕ → ℕ → Constant
-constantAt s p = constant_by s p (get_or s p 0)
+unfoldable pub constant_at : List ℕ → ℕ → Constant
+constant_at s p = constant_by s p (get_or s p 0)
 
 -- The n constants whose places stand from entry c on.
-unfoldable pub constantsOf : List ℕ → List ℕ → ℕ → ℕ → List Constant
-constantsOf s places c n = list (λ k. constantAt s (get_or places (c + k) 0)) n
+unfoldable pub constants_of : List ℕ → List ℕ → ℕ → ℕ → List Constant
+constants_of s places c n = list (λ k. constant_at s (get_or places (c + k) 0)) n
 
 -- A template's row: parameters, locals, the first constant's entry, the count of constants, the code's place and its size.
-unfoldable pub templateAt : List ℕ → List ℕ → List ℕ → ℕ → Template
-templateAt s places rows r = record {
+unfoldable pub template_at : List ℕ → List ℕ → List ℕ → ℕ → Template
+template_at s places rows r = record {
   parameters = get_or rows r 0;
   locals = get_or rows (r + 1) 0;
-  constants = constantsOf s places (get_or rows (r + 2) 0) (get_or rows (r + 3) 0);
+  constants = constants_of s places (get_or rows (r + 2) 0) (get_or rows (r + 3) 0);
   at = get_or rows (r + 4) 0;
   size = get_or rows (r + 5) 0;
 }
 
 -- n rows, 8 entries apart, as a template has at least 8 bytes.
-unfoldable pub templatesAt : List ℕ → List ℕ → List ℕ → ℕ → ℕ → List Template
-templatesAt s places rows r n = list (λ t. templateAt s places rows (r + 8 * t)) n
+unfoldable pub templates_at : List ℕ → List ℕ → List ℕ → ℕ → ℕ → List Template
+templates_at s places rows r n = list (λ t. template_at s places rows (r + 8 * t)) n
 
 -- The image that starts at byte b of the code store: its count of templates is at entry b, its rows start at b + 2.
-unfoldable pub imageAt : List ℕ → List ℕ → List ℕ → ℕ → List Template
-imageAt s places rows b = templatesAt s places rows (b + 2) (get_or rows b 0)
+unfoldable pub image_at : List ℕ → List ℕ → List ℕ → ℕ → List Template
+image_at s places rows b = templates_at s places rows (b + 2) (get_or rows b 0)
 
-unfoldable pub imagesOf : List ℕ → List ℕ → List ℕ → List ℕ → ℕ → List (List Template)
-imagesOf s places rows starts n = list (λ i. imageAt s places rows (get_or starts i 0)) n
+unfoldable pub images_of : List ℕ → List ℕ → List ℕ → List ℕ → ℕ → List (List Template)
+images_of s places rows starts n = list (λ i. image_at s places rows (get_or starts i 0)) n
 
 -- ys has what xs has below m.
 pub record Same (m : ℕ) (xs ys : List ℕ) : Type 0 where

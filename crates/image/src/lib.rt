@@ -6,12 +6,12 @@ ghost use Rattle.std.specs.Prelude.{◌≡◌, List, [], ℕ, ◌+◌, ◌*◌, 
 ghost use Rattle.std.proofs.Math.Option.{some};
 ghost use Rattle.std.proofs.Math.ListN.{get_elem?};
 ghost use Rattle.std.proofs.Math.Seq.{paste};
-ghost use Rattle.machine.specs.State.{noTemplate, limit, codeStore};
+ghost use Rattle.machine.specs.State.{no_template, limit, code_store};
 ghost use Rattle.reader.specs.Constants.{constant_of};
-ghost use Rattle.image.specs.View.{word_at, wideAt, constantAt, constantsOf, imagesOf};
+ghost use Rattle.image.specs.View.{word_at, wide_at, constant_at, constants_of, images_of};
 ghost use Rattle.image.specs.Fills.{Fills, Small, Rowed, FillsOne, FillsAll, FillsImage};
 ghost use Rattle.image.specs.Near.{Nears};
-ghost use Rattle.image.specs.Load.{sizesListed, Loads, Fitting, AppendSays, space_of, spaceRefusal, templateFrom, foundOf};
+ghost use Rattle.image.specs.Load.{sizes_listed, Loads, Fitting, AppendSays, space_of, space_refusal, template_from, found_of};
 
 use reader::{Constant, Cursor, Head, Item, Number, Step, Tail};
 
@@ -53,7 +53,7 @@ pub enum FoundConstant {
 
 // n constants: the place of each goes into the table.
 fn fill_constants(s: &[u8], places: &mut [u16], c: Cursor, n: usize, own: u64, count: u64) -> Step
-    requires { (c.at ≤ length s.now) × (length s.now ≤ limit codeStore) × (length s.now ≤ length places.old) }
+    requires { (c.at ≤ length s.now) × (length s.now ≤ limit code_store) × (length s.now ≤ length places.old) }
     ensures { Fills s.now places.old places.new c.at n own count result }
 {
     let first = c.at;
@@ -98,7 +98,7 @@ fn fill_template(
     own: u64,
     count: u64,
 ) -> Step
-    requires at_in_bounds { (c.at ≤ length s.now) × (length s.now ≤ limit codeStore) × (r ≤ c.at) }
+    requires at_in_bounds { (c.at ≤ length s.now) × (length s.now ≤ limit code_store) × (r ≤ c.at) }
     requires s_in_bounds { (length s.now ≤ length places.old) × (length s.now ≤ length rows.old) }
     ensures { FillsOne s.now places.old rows.old places.new rows.new c.at r own count result }
 {
@@ -128,7 +128,7 @@ fn fill_template(
 }
 
 fn fill_templates(s: &[u8], places: &mut [u16], rows: &mut [u16], c: Cursor, count: u64) -> Step
-    requires at_in_bounds { (c.at ≤ length s.now) × (length s.now ≤ limit codeStore) }
+    requires at_in_bounds { (c.at ≤ length s.now) × (length s.now ≤ limit code_store) }
     requires s_in_bounds { (length s.now ≤ length places.old) × (length s.now ≤ length rows.old) }
     ensures { FillsAll s.now places.old rows.old places.new rows.new c.at count result }
 {
@@ -152,7 +152,7 @@ fn fill_templates(s: &[u8], places: &mut [u16], rows: &mut [u16], c: Cursor, cou
 
 // An image that starts at a place of the store: its template count, then its rows.
 fn fill_image(s: &[u8], places: &mut [u16], rows: &mut [u16], at: usize) -> Step
-    requires at_in_bounds { (at ≤ length s.now) × (length s.now ≤ limit codeStore) }
+    requires at_in_bounds { (at ≤ length s.now) × (length s.now ≤ limit code_store) }
     requires s_in_bounds { (length s.now ≤ length places.old) × (length s.now ≤ length rows.old) }
     ensures { FillsImage s.now places.old rows.old places.new rows.new at result }
 {
@@ -183,7 +183,7 @@ enum Space {
 }
 
 fn ask_space(counts: ImageCounts, n: usize) -> Space
-    ensures { space_of result ≡ spaceRefusal counts n }
+    ensures { space_of result ≡ space_refusal counts n }
 {
     if CODE_BYTES < n {
         return Space::Full(8);
@@ -234,7 +234,7 @@ fn append(
 
 // Question 33.
 fn listed(code: usize, places: usize, rows: usize, starts: usize) -> bool
-    ensures { result ≡ sizesListed code places rows starts }
+    ensures { result ≡ sizes_listed code places rows starts }
 {
     if code != CODE_BYTES {
         return false;
@@ -297,7 +297,7 @@ fn no_template() -> FunctionTemplate
 
 // How many templates image i has, of n images.
 pub fn template_count(rows: &[u16], starts: &[u16], n: usize, i: usize) -> usize
-    ensures { (code places : List ℕ) → result ≡ length (get_or (imagesOf code places rows.now starts.now n) i []) }
+    ensures { (code places : List ℕ) → result ≡ length (get_or (images_of code places rows.now starts.now n) i []) }
 {
     if n <= i {
         return 0;
@@ -307,7 +307,7 @@ pub fn template_count(rows: &[u16], starts: &[u16], n: usize, i: usize) -> usize
 
 // Template t of image i, of n images; one of zeros where there is none.
 pub fn template_at(rows: &[u16], starts: &[u16], n: usize, i: usize, t: usize) -> FunctionTemplate
-    ensures { (code places : List ℕ) → templateFrom code places result ≡ get_or (get_or (imagesOf code places rows.now starts.now n) i []) t noTemplate }
+    ensures { (code places : List ℕ) → template_from code places result ≡ get_or (get_or (images_of code places rows.now starts.now n) i []) t no_template }
 {
     if n <= i {
         return no_template();
@@ -352,7 +352,7 @@ fn wide(x: u8) -> u64
 // Four bytes that follow the worth of those before them. They are there, so that they make one load.
 fn quad_at(code: &[u8], p: usize, before: u64) -> u64
     requires { (p < 65700) × (p + 4 ≤ length code.now) × (before < 4294967296) }
-    ensures { (result ≡ wideAt code.now 4 before p) × (result < (before + 1) * 4294967296) }
+    ensures { (result ≡ wide_at code.now 4 before p) × (result < (before + 1) * 4294967296) }
 {
     let q = p + 1;
     let r = q + 1;
@@ -366,7 +366,7 @@ fn quad_at(code: &[u8], p: usize, before: u64) -> u64
 // The same where some may be past the end.
 fn quad_of(code: &[u8], p: usize, before: u64) -> u64
     requires { (p < 65700) × (before < 4294967296) }
-    ensures { (result ≡ wideAt code.now 4 before p) × (result < (before + 1) * 4294967296) }
+    ensures { (result ≡ wide_at code.now 4 before p) × (result < (before + 1) * 4294967296) }
 {
     let q = p + 1;
     let r = q + 1;
@@ -380,7 +380,7 @@ fn quad_of(code: &[u8], p: usize, before: u64) -> u64
 // Eight bytes, with no loop.
 fn long_of(code: &[u8], p: usize) -> u64
     requires { p < 65600 }
-    ensures { result ≡ wideAt code.now 8 0 p }
+    ensures { result ≡ wide_at code.now 8 0 p }
 {
     if p + 8 <= code.len() {
         let a = quad_at(code, p, 0);
@@ -393,7 +393,7 @@ fn long_of(code: &[u8], p: usize) -> u64
 // The constant whose kind stands at place p of the code.
 fn held(code: &[u8], p: usize) -> Constant
     requires { p < 65536 }
-    ensures { constant_of result ≡ constantAt code.now p }
+    ensures { constant_of result ≡ constant_at code.now p }
 {
     match byte_of(code, p) {
         0 => Constant::Number(long_of(code, p + 1)),
@@ -411,7 +411,7 @@ fn held(code: &[u8], p: usize) -> Constant
 
 // Constant k of a template.
 pub fn constant_at(code: &[u8], places: &[u16], t: FunctionTemplate, k: usize) -> FoundConstant
-    ensures { foundOf result ≡ get_elem? (constantsOf code.now places.now t.constants t.constant_count) k }
+    ensures { found_of result ≡ get_elem? (constants_of code.now places.now t.constants t.constant_count) k }
 {
     if t.constant_count <= k {
         return FoundConstant::Missing;
@@ -423,7 +423,7 @@ pub fn constant_at(code: &[u8], places: &[u16], t: FunctionTemplate, k: usize) -
 // The constant whose kind stands at place p, where nine bytes are there and it is no function.
 fn near_at(code: &[u8], p: usize) -> FoundConstant
     requires { (p < 65536) × (p + 9 ≤ length code.now) }
-    ensures { Nears (some (constantAt code.now p)) result }
+    ensures { Nears (some (constant_at code.now p)) result }
 {
     let q = p + 1;
     match wide(code[p]) {
@@ -446,7 +446,7 @@ fn near_at(code: &[u8], p: usize) -> FoundConstant
 
 // Constant k of a template, the quick way: where its bytes are sure to be there and it is no function. `Missing` says nothing of the constant.
 pub fn near(code: &[u8], places: &[u16], t: FunctionTemplate, k: usize) -> FoundConstant
-    ensures { Nears (get_elem? (constantsOf code.now places.now t.constants t.constant_count) k) result }
+    ensures { Nears (get_elem? (constants_of code.now places.now t.constants t.constant_count) k) result }
 {
     if t.constant_count <= k {
         return FoundConstant::Missing;
@@ -483,7 +483,7 @@ pub fn load_const(
     t: usize,
     k: usize,
 ) -> FoundConstant
-    ensures { foundOf result ≡ get_elem? (get_or (get_or (imagesOf code.now places.now rows.now starts.now n) i []) t noTemplate).constants k }
+    ensures { found_of result ≡ get_elem? (get_or (get_or (images_of code.now places.now rows.now starts.now n) i []) t no_template).constants k }
 {
     constant_at(code, places, template_at(rows, starts, n, i, t), k)
 }

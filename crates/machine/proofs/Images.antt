@@ -6,7 +6,7 @@ use Prim.Native.Nat.{ℕ, zero, suc, ◌+◌, ◌*◌, ◌≤◌}
 use native.Mathlib.Omega.{arith}
 use lib.Dec.{leb, ltb, eqb, leb→le}
 use lib.ListN.{length, take, drop, get_or, length-drop}
-use Rattle.machine.specs.Basic.{isAscii}
+use Rattle.machine.specs.Basic.{is_ascii}
 use Rattle.machine.specs.Value.{Text, in_code}
 use Rattle.machine.specs.Image as I
 use Rattle.machine.specs.Image.{Constant, Template, Read, Reader, refused, got, ◌>>=◌}
@@ -38,14 +38,14 @@ module _ (lo hi : ℕ) where
   abbrev pub Reads : {A : Type 0} → (A → Type 0) → Reader A → Type 0
   Reads P r = (at : ℕ) (rest : List ℕ) → lo ≤ at → at + length rest ≡ hi → Good P (r at rest)
 
-  good-after : {A B : Type 0} (P : A → Type 0) (Q : B → Type 0) (r : Read A) (f : A → Reader B)
+  good_after : {A B : Type 0} (P : A → Type 0) (Q : B → Type 0) (r : Read A) (f : A → Reader B)
       → Good P r → ((a : A) → P a → Reads Q (f a)) → Good Q (I.after r f)
-  good-after P Q (refused n) f g k = g
-  good-after P Q (got a at rest) f g k = k a g.2 at rest g.0 g.1
+  good_after P Q (refused n) f g k = g
+  good_after P Q (got a at rest) f g k = k a g.2 at rest g.0 g.1
 
   bind : {A B : Type 0} (P : A → Type 0) (Q : B → Type 0) (r : Reader A) (f : A → Reader B)
       → Reads P r → ((a : A) → P a → Reads Q (f a)) → Reads Q (r >>= f)
-  bind P Q r f g k at rest l e = good-after P Q (r at rest) f (g at rest l e) k
+  bind P Q r f g k at rest l e = good_after P Q (r at rest) f (g at rest l e) k
 
   return : {A : Type 0} (P : A → Type 0) (a : A) → P a → Reads P (I.return a)
   return P a p at rest l e = (l, e, p)
@@ -68,32 +68,32 @@ module _ (lo hi : ℕ) where
   Bytes : ℕ → (ℕ × List ℕ) → Type 0
   Bytes n p = (lo ≤ p.0) × (p.0 + n ≤ hi)
 
-  bytes-by : (n at : ℕ) (rest : List ℕ) (b : Bool) → leb n (length rest) ≡ b → lo ≤ at → at + length rest ≡ hi
+  bytes_by : (n at : ℕ) (rest : List ℕ) (b : Bool) → leb n (length rest) ≡ b → lo ≤ at → at + length rest ≡ hi
       → Good (Bytes n) ((I.ask 1 b (λ p r. got (at, take n rest) (at + n) (drop n rest))) at rest)
   unfolding Bytes
-  bytes-by n at rest true q l e =
+  bytes_by n at rest true q l e =
       let h : n ≤ length rest = leb→le n (length rest) (rw q tt) in
       (omega arith, simp length-drop (omega arith), (l, omega arith))
-  bytes-by n at rest false q l e = omega arith
+  bytes_by n at rest false q l e = omega arith
 
   bytes : (n : ℕ) → Reads (Bytes n) (I.bytes n)
-  bytes n at rest l e = bytes-by n at rest (leb n (length rest)) refl l e
+  bytes n at rest l e = bytes_by n at rest (leb n (length rest)) refl l e
 
   times : {A : Type 0} (P : A → Type 0) (k : ℕ) (r : Reader A) → Reads P r → Reads (All P) (I.times k r)
   times P zero r g = return (All P) [] tt
   times P (suc k) r g =
       bind P (All P) r _ g (λ a p. bind (All P) (All P) (I.times k r) _ (times P k r g) (λ more ps. return (All P) (a ∷ more) (p, ps)))
 
-  text : Reads (ConstantIn lo hi) I.textConstant
+  text : Reads (ConstantIn lo hi) I.text_constant
   unfolding Bytes
   text = bind Anything (ConstantIn lo hi) I.word _ word (λ n _.
       bind (Bytes n) (ConstantIn lo hi) (I.bytes n) _ (bytes n) (λ p h.
-      ask (ConstantIn lo hi) 5 (omega arith) (isAscii p.1) _ (return (ConstantIn lo hi) (Constant.text (record { store = in_code; at = p.0; size = n })) (refl, h.0, h.1))))
+      ask (ConstantIn lo hi) 5 (omega arith) (is_ascii p.1) _ (return (ConstantIn lo hi) (Constant.text (record { store = in_code; at = p.0; size = n })) (refl, h.0, h.1))))
 
-  boolean : Reads (ConstantIn lo hi) I.booleanConstant
+  boolean : Reads (ConstantIn lo hi) I.boolean_constant
   boolean = bind Anything (ConstantIn lo hi) I.byte _ byte (λ b _. ask (ConstantIn lo hi) 4 (omega arith) (ltb b 2) _ (return (ConstantIn lo hi) (Constant.boolean (eqb b 1)) tt))
 
-  function : (own count : ℕ) → Reads (ConstantIn lo hi) (I.functionConstant own count)
+  function : (own count : ℕ) → Reads (ConstantIn lo hi) (I.function_constant own count)
   function own count = bind Anything (ConstantIn lo hi) I.word _ word (λ t _.
       ask (ConstantIn lo hi) 6 (omega arith) (ltb own t && ltb t count) _ (return (ConstantIn lo hi) (Constant.function t) tt))
 
@@ -127,13 +127,13 @@ module _ (lo hi : ℕ) where
       bind (All (TemplateIn lo hi)) (All (TemplateIn lo hi)) (I.templates count (own + 1) k) _ (templates count (own + 1) k) (λ ts ps.
       return (All (TemplateIn lo hi)) (t ∷ ts) (p, ps)))
 
-  atEnd : {A : Type 0} (P : A → Type 0) (a : A) → P a → Reads P (I.atEnd a)
-  atEnd P a p at [] l e = (l, e, p)
-  atEnd P a p at (b ∷ rest) l e = omega arith
+  at_end : {A : Type 0} (P : A → Type 0) (a : A) → P a → Reads P (I.at_end a)
+  at_end P a p at [] l e = (l, e, p)
+  at_end P a p at (b ∷ rest) l e = omega arith
 
   pub image : Reads (All (TemplateIn lo hi)) I.image
   image =
       bind Anything (All (TemplateIn lo hi)) I.word _ word (λ count _.
-      bind (All (TemplateIn lo hi)) (All (TemplateIn lo hi)) (I.ask 2 (leb 1 count && leb count 256) (I.templates count 0 count)) (λ ts. I.atEnd ts)
+      bind (All (TemplateIn lo hi)) (All (TemplateIn lo hi)) (I.ask 2 (leb 1 count && leb count 256) (I.templates count 0 count)) (λ ts. I.at_end ts)
       (ask (All (TemplateIn lo hi)) 2 (omega arith) (leb 1 count && leb count 256) (I.templates count 0 count) (templates count 0 count))
-      (λ ts ps. atEnd (All (TemplateIn lo hi)) ts ps))
+      (λ ts ps. at_end (All (TemplateIn lo hi)) ts ps))

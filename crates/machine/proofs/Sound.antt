@@ -11,16 +11,16 @@ use borrow.Author.Tests.{leb-true, le-leb}
 use Rattle.machine.specs.Basic.{same, filter, lowest}
 use Rattle.std.specs.Prelude.{if◌then◌else◌}
 use Rattle.machine.specs.Value.{Value}
-use Rattle.machine.specs.State.{State, Bytes, bytes, Frame, Handler, Property, Name, console, kept, Global, array, Kind, bytes_of, nameBytes, isPair, isNamed, any, changeFirst, hasProperty, hasGlobal, nextText, fresh, topAt, end_of}
-use Rattle.machine.specs.State.{Store, codeStore, imageStore, frameStore, slotStore, handlerStore, functionStore, objectStore, propertyStore, globalStore, textStore, outputStore, used, operandLimit}
-use Rattle.machine.specs.Error.{JsVmError, stackOverflow, noCallFrame}
+use Rattle.machine.specs.State.{State, Bytes, bytes, Frame, Handler, Property, Name, console, kept, Global, array, Kind, bytes_of, name_bytes, is_pair, is_named, any, change_first, has_property, has_global, next_text, fresh, top_at, end_of}
+use Rattle.machine.specs.State.{Store, code_store, image_store, frame_store, slot_store, handler_store, function_store, object_store, property_store, global_store, text_store, output_store, used, operand_limit}
+use Rattle.machine.specs.Error.{JsVmError, stack_overflow, no_call_frame}
 use Rattle.machine.specs.Fields as S
 use Rattle.machine.specs.Act as A
-use Rattle.machine.specs.Act.{Act, apply, error, addText, addProperty, addProperties}
+use Rattle.machine.specs.Act.{Act, apply, error, add_text, add_property, add_properties}
 use Rattle.machine.specs.Tally as T
-use Rattle.machine.specs.Tally.{Tally, Pair, count, useOf, nothing}
-use Rattle.machine.specs.Demand3.{All, savedBy, savedWithin}
-use Rattle.machine.proofs.Texts.{Inside, Grows, grows, grows-text, slice-new, all_append, all_map}
+use Rattle.machine.specs.Tally.{Tally, Pair, count, use_of, nothing}
+use Rattle.machine.specs.Demand3.{All, saved_by, saved_within}
+use Rattle.machine.proofs.Texts.{Inside, Grows, grows, grows_text, slice_new, all_append, all_map}
 use Rattle.machine.proofs.Frames as F
 use Rattle.machine.proofs.Frames.{Frames}
 
@@ -34,7 +34,7 @@ NameInside m console = Unit {0}
 NameInside m (kept t) = Inside m t
 
 abbrev pub name_of : Bytes → Global → List ℕ
-name_of m g = nameBytes m g.name
+name_of m g = name_bytes m g.name
 
 pub record Keys (m : Bytes) (ps : List Property) (pairs : List Pair) : Type 0 where
   pub inside : All (λ p. Inside m p.key) ps
@@ -45,27 +45,27 @@ pub record Names (m : Bytes) (gs : List Global) (names : List (List ℕ)) : Type
   pub agree : map (name_of m) gs ≡ names
 
 module _ (m m' : Bytes) (g : Grows m m') where
-  keys-same : (ps : List Property) → All (λ p. Inside m p.key) ps → map (pair_of m') ps ≡ map (pair_of m) ps
-  keys-same [] i = refl
-  keys-same (p ∷ ps) i = ap₂ (λ (b : List ℕ) (r : List Pair). record { object = p.owner; key = b } ∷ r) (g p.key i.0).1 (keys-same ps i.1)
+  keys_same : (ps : List Property) → All (λ p. Inside m p.key) ps → map (pair_of m') ps ≡ map (pair_of m) ps
+  keys_same [] i = refl
+  keys_same (p ∷ ps) i = ap₂ (λ (b : List ℕ) (r : List Pair). record { object = p.owner; key = b } ∷ r) (g p.key i.0).1 (keys_same ps i.1)
 
-  keys-grow : (ps : List Property) (pairs : List Pair) → Keys m ps pairs → Keys m' ps pairs
-  keys-grow ps pairs k = record {
+  keys_grow : (ps : List Property) (pairs : List Pair) → Keys m ps pairs → Keys m' ps pairs
+  keys_grow ps pairs k = record {
     inside = all_map (λ p. Inside m p.key) (λ p. Inside m' p.key) (λ p i. (g p.key i).0) ps k.inside;
-    agree = keys-same ps k.inside ∙ k.agree;
+    agree = keys_same ps k.inside ∙ k.agree;
   }
 
-  name-grow : (n : Name) → NameInside m n → NameInside m' n × (nameBytes m' n ≡ nameBytes m n)
-  name-grow console i = (tt, refl)
-  name-grow (kept t) i = g t i
+  name_grow : (n : Name) → NameInside m n → NameInside m' n × (name_bytes m' n ≡ name_bytes m n)
+  name_grow console i = (tt, refl)
+  name_grow (kept t) i = g t i
 
   names_same : (gs : List Global) → All (λ x. NameInside m x.name) gs → map (name_of m') gs ≡ map (name_of m) gs
   names_same [] i = refl
-  names_same (x ∷ gs) i = ap₂ (λ (b : List ℕ) (r : List (List ℕ)). b ∷ r) (name-grow x.name i.0).1 (names_same gs i.1)
+  names_same (x ∷ gs) i = ap₂ (λ (b : List ℕ) (r : List (List ℕ)). b ∷ r) (name_grow x.name i.0).1 (names_same gs i.1)
 
-  names-grow : (gs : List Global) (names : List (List ℕ)) → Names m gs names → Names m' gs names
-  names-grow gs names k = record {
-    inside = all_map (λ x. NameInside m x.name) (λ x. NameInside m' x.name) (λ x i. (name-grow x.name i).0) gs k.inside;
+  names_grow : (gs : List Global) (names : List (List ℕ)) → Names m gs names → Names m' gs names
+  names_grow gs names k = record {
+    inside = all_map (λ x. NameInside m x.name) (λ x. NameInside m' x.name) (λ x i. (name_grow x.name i).0) gs k.inside;
     agree = names_same gs k.inside ∙ k.agree;
   }
 
@@ -74,39 +74,39 @@ abbrev pub Nested : ℕ → List Handler → Type 0
 Nested n [] = Unit {0}
 Nested n (h ∷ hs) = (1 ≤ h.frames) × (h.frames ≤ n) × Nested h.frames hs
 
-nested-more : (m n : ℕ) (hs : List Handler) → m ≤ n → Nested m hs → Nested n hs
-nested-more m n [] l a = tt
-nested-more m n (h ∷ hs) l a = let b = a.1 in (a.0, omega arith, a.2)
+nested_more : (m n : ℕ) (hs : List Handler) → m ≤ n → Nested m hs → Nested n hs
+nested_more m n [] l a = tt
+nested_more m n (h ∷ hs) l a = let b = a.1 in (a.0, omega arith, a.2)
 
-pub nested-all : (m n : ℕ) (hs : List Handler) → m ≤ n → Nested m hs → All (λ h. h.frames ≤ n) hs
-nested-all m n [] l a = tt
-nested-all m n (h ∷ hs) l a = let b = a.1 in (omega arith, nested-all h.frames n hs (omega arith) a.2)
+pub nested_all : (m n : ℕ) (hs : List Handler) → m ≤ n → Nested m hs → All (λ h. h.frames ≤ n) hs
+nested_all m n [] l a = tt
+nested_all m n (h ∷ hs) l a = let b = a.1 in (omega arith, nested_all h.frames n hs (omega arith) a.2)
 
 -- Over n frames, no older handler than one that saved at most n saved more: so letting the newest go while they saved more is asking each one.
-older-within : (m n : ℕ) (hs : List Handler) → m ≤ n → Nested m hs → savedWithin n hs ≡ hs
-older-within m n [] l a = refl
-older-within m n (h ∷ hs) l a =
-    let b = a.1 in rw (le-leb h.frames n (omega arith)) (ap (λ (x : List Handler). h ∷ x) (older-within h.frames n hs (omega arith) a.2))
+older_within : (m n : ℕ) (hs : List Handler) → m ≤ n → Nested m hs → saved_within n hs ≡ hs
+older_within m n [] l a = refl
+older_within m n (h ∷ hs) l a =
+    let b = a.1 in rw (le-leb h.frames n (omega arith)) (ap (λ (x : List Handler). h ∷ x) (older_within h.frames n hs (omega arith) a.2))
 
 pub record Left (n : ℕ) (hs hs' : List Handler) : Type 0 where
   pub nested : Nested n hs'
-  pub each : hs' ≡ savedWithin n hs
+  pub each : hs' ≡ saved_within n hs
 
-pub pending-over : (m n : ℕ) (hs : List Handler) → Nested m hs → Left n hs (A.pendingOver n hs)
-pending-over m n [] a = record { nested = tt; each = refl }
-pending-over m n (h ∷ hs) a = go (leb h.frames n) refl (pending-over h.frames n hs a.2)
+pub pending_over_lem : (m n : ℕ) (hs : List Handler) → Nested m hs → Left n hs (A.pending_over n hs)
+pending_over_lem m n [] a = record { nested = tt; each = refl }
+pending_over_lem m n (h ∷ hs) a = go (leb h.frames n) refl (pending_over_lem h.frames n hs a.2)
   where
-    go : (b : Bool) → leb h.frames n ≡ b → Left n hs (A.pendingOver n hs) → Left n (h ∷ hs) (if b then h ∷ hs else A.pendingOver n hs)
+    go : (b : Bool) → leb h.frames n ≡ b → Left n hs (A.pending_over n hs) → Left n (h ∷ hs) (if b then h ∷ hs else A.pending_over n hs)
     go true e p = record {
       nested = (a.0, leb-true h.frames n e, a.2);
-      each = rw e (ap (λ (x : List Handler). h ∷ x) (sym (older-within h.frames n hs (leb-true h.frames n e) a.2)));
+      each = rw e (ap (λ (x : List Handler). h ∷ x) (sym (older_within h.frames n hs (leb-true h.frames n e) a.2)));
     }
     go false e p = record { nested = p.nested; each = rw e p.each }
 
 -- The tally asks each one likewise.
-map-filter : {A B : Type 0} (f : A → B) (p : B → Bool) (xs : List A) → map f (filter (λ x. p (f x)) xs) ≡ filter p (map f xs)
-map-filter f p [] = refl
-map-filter f p (x ∷ xs) = go (p (f x)) (map-filter f p xs)
+map_filter : {A B : Type 0} (f : A → B) (p : B → Bool) (xs : List A) → map f (filter (λ x. p (f x)) xs) ≡ filter p (map f xs)
+map_filter f p [] = refl
+map_filter f p (x ∷ xs) = go (p (f x)) (map_filter f p xs)
   where
     go : (b : Bool) → map f (filter (λ y. p (f y)) xs) ≡ filter p (map f xs)
         → map f (if b then x ∷ filter (λ y. p (f y)) xs else filter (λ y. p (f y)) xs) ≡ (if b then f x ∷ filter p (map f xs) else filter p (map f xs))
@@ -119,9 +119,9 @@ pub record Sound (s : State) (t : Tally) : Type 0 where
   pub code : length s.code ≡ t.code
   pub images : length s.images ≡ t.images
   pub operands : length s.operands ≡ t.operands
-  pub few : length s.operands ≤ operandLimit
+  pub few : length s.operands ≤ operand_limit
   pub frames : Frames s.frames s.slots t.frames
-  pub handlers : map savedBy s.handlers ≡ t.handlers
+  pub handlers : map saved_by s.handlers ≡ t.handlers
   pub saved : Nested (length s.frames) s.handlers
   pub functions : length s.functions ≡ t.functions
   pub objects : length s.objects ≡ t.objects
@@ -130,8 +130,8 @@ pub record Sound (s : State) (t : Tally) : Type 0 where
   pub text : length s.text ≡ t.text
   pub output : length s.output ≡ t.output
 
-pub sound-fresh : Sound fresh nothing
-sound-fresh = record {
+pub sound_fresh : Sound fresh nothing
+sound_fresh = record {
   code = refl;
   images = refl;
   operands = refl;
@@ -148,23 +148,23 @@ sound-fresh = record {
 }
 
 -- What a store holds is the use tallied.
-pub used-is : (q : Store) (s : State) (t : Tally) → Sound s t → used s q ≡ useOf t q
-used-is codeStore s t r = r.code
-used-is imageStore s t r = r.images
-used-is frameStore s t r = F.frames-used s.frames s.slots t.frames r.frames
-used-is slotStore s t r = F.slots-used s.frames s.slots t.frames r.frames
-used-is handlerStore s t r = sym (length-map s.handlers savedBy) ∙ ap length r.handlers
-used-is functionStore s t r = r.functions
-used-is objectStore s t r = r.objects
-used-is propertyStore s t r = sym (length-map s.properties (pair_of (bytes s))) ∙ ap length r.keys.agree
-used-is globalStore s t r = sym (length-map s.globals (name_of (bytes s))) ∙ ap length r.names.agree
-used-is textStore s t r = r.text
-used-is outputStore s t r = r.output
+pub used_is : (q : Store) (s : State) (t : Tally) → Sound s t → used s q ≡ use_of t q
+used_is code_store s t r = r.code
+used_is image_store s t r = r.images
+used_is frame_store s t r = F.frames_used s.frames s.slots t.frames r.frames
+used_is slot_store s t r = F.slots_used s.frames s.slots t.frames r.frames
+used_is handler_store s t r = sym (length-map s.handlers saved_by) ∙ ap length r.handlers
+used_is function_store s t r = r.functions
+used_is object_store s t r = r.objects
+used_is property_store s t r = sym (length-map s.properties (pair_of (bytes s))) ∙ ap length r.keys.agree
+used_is global_store s t r = sym (length-map s.globals (name_of (bytes s))) ∙ ap length r.names.agree
+used_is text_store s t r = r.text
+used_is output_store s t r = r.output
 
 -- A part of the state changes, and the tally with it.
 module _ (s : State) (t : Tally) (r : Sound s t) where
-  with-operands : (vs : List Value) (n : ℕ) → length vs ≡ n → length vs ≤ operandLimit → Sound (S.setOperands vs s) (T.tallyOperands n t)
-  with-operands vs n e l = record {
+  with_operands_lem : (vs : List Value) (n : ℕ) → length vs ≡ n → length vs ≤ operand_limit → Sound (S.set_operands vs s) (T.tally_operands n t)
+  with_operands_lem vs n e l = record {
     code = r.code;
     images = r.images;
     operands = e;
@@ -180,9 +180,9 @@ module _ (s : State) (t : Tally) (r : Sound s t) where
     names = r.names;
   }
 
-  with-stacks : (fs : List Frame) (slots : List Value) (ns : List ℕ) (hs : List Handler) (n : List T.Saved) → Frames fs slots ns → map savedBy hs ≡ n
-      → Nested (length fs) hs → Sound (S.setHandlers hs (S.setFrames fs (S.setSlots slots s))) (T.tallyHandlers n (T.tallyFrames ns t))
-  with-stacks fs slots ns hs n f e a = record {
+  with_stacks_lem : (fs : List Frame) (slots : List Value) (ns : List ℕ) (hs : List Handler) (n : List T.Saved) → Frames fs slots ns → map saved_by hs ≡ n
+      → Nested (length fs) hs → Sound (S.set_handlers hs (S.set_frames fs (S.set_slots slots s))) (T.tally_handlers n (T.tally_frames ns t))
+  with_stacks_lem fs slots ns hs n f e a = record {
     code = r.code;
     images = r.images;
     operands = r.operands;
@@ -199,16 +199,16 @@ module _ (s : State) (t : Tally) (r : Sound s t) where
   }
 
   -- No fewer frames stand.
-  with-frames : (fs : List Frame) (slots : List Value) (ns : List ℕ) → Frames fs slots ns → length s.frames ≤ length fs
-      → Sound (S.setFrames fs (S.setSlots slots s)) (T.tallyFrames ns t)
-  with-frames fs slots ns f l =
-      with-stacks fs slots ns s.handlers t.handlers f r.handlers (nested-more (length s.frames) (length fs) s.handlers l r.saved)
+  with_frames : (fs : List Frame) (slots : List Value) (ns : List ℕ) → Frames fs slots ns → length s.frames ≤ length fs
+      → Sound (S.set_frames fs (S.set_slots slots s)) (T.tally_frames ns t)
+  with_frames fs slots ns f l =
+      with_stacks_lem fs slots ns s.handlers t.handlers f r.handlers (nested_more (length s.frames) (length fs) s.handlers l r.saved)
 
-  with-handlers : (hs : List Handler) (n : List T.Saved) → map savedBy hs ≡ n → Nested (length s.frames) hs → Sound (S.setHandlers hs s) (T.tallyHandlers n t)
-  with-handlers hs n e a = with-stacks s.frames s.slots t.frames hs n r.frames e a
+  with_handlers_lem : (hs : List Handler) (n : List T.Saved) → map saved_by hs ≡ n → Nested (length s.frames) hs → Sound (S.set_handlers hs s) (T.tally_handlers n t)
+  with_handlers_lem hs n e a = with_stacks_lem s.frames s.slots t.frames hs n r.frames e a
 
-  with-functions : (i k : ℕ) → Sound (apply (A.addFunction i k) s) (count (A.addFunction i k) t)
-  with-functions i k = record {
+  with_functions_lem : (i k : ℕ) → Sound (apply (A.add_function i k) s) (count (A.add_function i k) t)
+  with_functions_lem i k = record {
     code = r.code;
     images = r.images;
     operands = r.operands;
@@ -224,8 +224,8 @@ module _ (s : State) (t : Tally) (r : Sound s t) where
     names = r.names;
   }
 
-  with-kind : (k : Kind) → Sound (A.addKind k s) (T.tallyObjects (t.objects + 1) t)
-  with-kind k = record {
+  with_kind : (k : Kind) → Sound (A.add_kind k s) (T.tally_objects (t.objects + 1) t)
+  with_kind k = record {
     code = r.code;
     images = r.images;
     operands = r.operands;
@@ -241,8 +241,8 @@ module _ (s : State) (t : Tally) (r : Sound s t) where
     names = r.names;
   }
 
-  with-output : (o : List ℕ) (n : ℕ) → length o ≡ n → Sound (S.setOutput o s) (T.tallyOutput n t)
-  with-output o n e = record {
+  with_output_lem : (o : List ℕ) (n : ℕ) → length o ≡ n → Sound (S.set_output o s) (T.tally_output n t)
+  with_output_lem o n e = record {
     code = r.code;
     images = r.images;
     operands = r.operands;
@@ -258,8 +258,8 @@ module _ (s : State) (t : Tally) (r : Sound s t) where
     names = r.names;
   }
 
-  with-text : (bs : List ℕ) → Sound (addText bs s) (T.tallyText (t.text + length bs) t)
-  with-text bs = record {
+  with_text_lem : (bs : List ℕ) → Sound (add_text bs s) (T.tally_text (t.text + length bs) t)
+  with_text_lem bs = record {
     code = r.code;
     images = r.images;
     operands = r.operands;
@@ -271,8 +271,8 @@ module _ (s : State) (t : Tally) (r : Sound s t) where
     objects = r.objects;
     text = length-append s.text bs ∙ ap (λ (n : ℕ). n + length bs) r.text;
     output = r.output;
-    keys = keys-grow (bytes s) (bytes (addText bs s)) (grows-text bs s) s.properties t.pairs r.keys;
-    names = names-grow (bytes s) (bytes (addText bs s)) (grows-text bs s) s.globals t.names r.names;
+    keys = keys_grow (bytes s) (bytes (add_text bs s)) (grows_text bs s) s.properties t.pairs r.keys;
+    names = names_grow (bytes s) (bytes (add_text bs s)) (grows_text bs s) s.globals t.names r.names;
   }
 
   with_code : (bs : List ℕ) → Sound (apply (A.load bs) s) (count (A.load bs) t)
@@ -288,11 +288,11 @@ module _ (s : State) (t : Tally) (r : Sound s t) where
     objects = r.objects;
     text = r.text;
     output = r.output;
-    keys = keys-grow (bytes s) (bytes (apply (A.load bs) s)) (grows (A.load bs) s) s.properties t.pairs r.keys;
-    names = names-grow (bytes s) (bytes (apply (A.load bs) s)) (grows (A.load bs) s) s.globals t.names r.names;
+    keys = keys_grow (bytes s) (bytes (apply (A.load bs) s)) (grows (A.load bs) s) s.properties t.pairs r.keys;
+    names = names_grow (bytes s) (bytes (apply (A.load bs) s)) (grows (A.load bs) s) s.globals t.names r.names;
   }
 
-  with_keys : (ps : List Property) (pairs : List Pair) → Keys (bytes s) ps pairs → Sound (S.setProperties ps s) (T.tallyPairs pairs t)
+  with_keys : (ps : List Property) (pairs : List Pair) → Keys (bytes s) ps pairs → Sound (S.set_properties ps s) (T.tally_pairs pairs t)
   with_keys ps pairs k = record {
     code = r.code;
     images = r.images;
@@ -309,8 +309,8 @@ module _ (s : State) (t : Tally) (r : Sound s t) where
     names = r.names;
   }
 
-  with-names : (gs : List Global) (names : List (List ℕ)) → Names (bytes s) gs names → Sound (S.setGlobals gs s) (T.tallyNames names t)
-  with-names gs names k = record {
+  with_names : (gs : List Global) (names : List (List ℕ)) → Names (bytes s) gs names → Sound (S.set_globals gs s) (T.tally_names names t)
+  with_names gs names k = record {
     code = r.code;
     images = r.images;
     operands = r.operands;
@@ -328,163 +328,163 @@ module _ (s : State) (t : Tally) (r : Sound s t) where
 
 -- A property or a global more, or another value for one.
 
-map-append : {A B : Type 0} (f : A → B) (xs ys : List A) → map f (xs ++ ys) ≡ map f xs ++ map f ys
-map-append f [] ys = refl
-map-append f (x ∷ xs) ys = ap (λ r. f x ∷ r) (map-append f xs ys)
+map_append : {A B : Type 0} (f : A → B) (xs ys : List A) → map f (xs ++ ys) ≡ map f xs ++ map f ys
+map_append f [] ys = refl
+map_append f (x ∷ xs) ys = ap (λ r. f x ∷ r) (map_append f xs ys)
 
 -- A change of the first element that passes a test, where the change keeps g or P.
-map-change : {A B : Type 0} (g : A → B) (t : A → Bool) (f : A → A) → ((a : A) → g (f a) ≡ g a) → (xs : List A) → map g (changeFirst t f xs) ≡ map g xs
-map-change g t f h [] = refl
-map-change g t f h (x ∷ xs) = go (t x) (map-change g t f h xs)
+map_change : {A B : Type 0} (g : A → B) (t : A → Bool) (f : A → A) → ((a : A) → g (f a) ≡ g a) → (xs : List A) → map g (change_first t f xs) ≡ map g xs
+map_change g t f h [] = refl
+map_change g t f h (x ∷ xs) = go (t x) (map_change g t f h xs)
   where
-    go : (b : Bool) → map g (changeFirst t f xs) ≡ map g xs → map g (if b then f x ∷ xs else x ∷ changeFirst t f xs) ≡ g x ∷ map g xs
+    go : (b : Bool) → map g (change_first t f xs) ≡ map g xs → map g (if b then f x ∷ xs else x ∷ change_first t f xs) ≡ g x ∷ map g xs
     go true e = ap (λ a. a ∷ map g xs) (h x)
     go false e = ap (λ r. g x ∷ r) e
 
-all-change : {A : Type 0} (P : A → Type 0) (t : A → Bool) (f : A → A) → ((a : A) → P a → P (f a)) → (xs : List A) → All P xs → All P (changeFirst t f xs)
-all-change P t f h [] p = tt
-all-change P t f h (x ∷ xs) p = go (t x) (all-change P t f h xs p.1)
+all_change : {A : Type 0} (P : A → Type 0) (t : A → Bool) (f : A → A) → ((a : A) → P a → P (f a)) → (xs : List A) → All P xs → All P (change_first t f xs)
+all_change P t f h [] p = tt
+all_change P t f h (x ∷ xs) p = go (t x) (all_change P t f h xs p.1)
   where
-    go : (b : Bool) → All P (changeFirst t f xs) → All P (if b then f x ∷ xs else x ∷ changeFirst t f xs)
+    go : (b : Bool) → All P (change_first t f xs) → All P (if b then f x ∷ xs else x ∷ change_first t f xs)
     go true c = (h x p.0, p.1)
     go false c = (p.0, c)
 
-add-key : (o : ℕ) (k : List ℕ) (v : Value) (s : State) (t : Tally) → Sound s t → Sound (addProperty o k v s) (T.addPair o k t)
-add-key o k v s t r =
-    let s' = addText k s in
-    let r' = with-text s t r k in
-    let new : Property = record { owner = o; key = nextText s (length k); value = v } in
-    let n = slice-new s.text k in
-    with_keys s' (T.tallyText (t.text + length k) t) r' (s.properties ++ new ∷ []) _ (record {
+add_key : (o : ℕ) (k : List ℕ) (v : Value) (s : State) (t : Tally) → Sound s t → Sound (add_property o k v s) (T.add_pair o k t)
+add_key o k v s t r =
+    let s' = add_text k s in
+    let r' = with_text_lem s t r k in
+    let new : Property = record { owner = o; key = next_text s (length k); value = v } in
+    let n = slice_new s.text k in
+    with_keys s' (T.tally_text (t.text + length k) t) r' (s.properties ++ new ∷ []) _ (record {
       inside = all_append (λ p. Inside (bytes s') p.key) s.properties (new ∷ []) r'.keys.inside (n.0, tt);
-      agree = map-append (pair_of (bytes s')) s.properties (new ∷ [])
+      agree = map_append (pair_of (bytes s')) s.properties (new ∷ [])
           ∙ ap₂ (λ (x : List Pair) (b : List ℕ). x ++ record { object = o; key = b } ∷ []) r'.keys.agree n.1;
     })
 
-add-keys : (o : ℕ) (kvs : List (List ℕ × Value)) (s : State) (t : Tally) → Sound s t → Sound (addProperties o kvs s) (T.addPairs o kvs t)
-add-keys o [] s t r = r
-add-keys o (kv ∷ kvs) s t r = add-keys o kvs (addProperty o kv.0 kv.1 s) (T.addPair o kv.0 t) (add-key o kv.0 kv.1 s t r)
+add_keys : (o : ℕ) (kvs : List (List ℕ × Value)) (s : State) (t : Tally) → Sound s t → Sound (add_properties o kvs s) (T.add_pairs o kvs t)
+add_keys o [] s t r = r
+add_keys o (kv ∷ kvs) s t r = add_keys o kvs (add_property o kv.0 kv.1 s) (T.add_pair o kv.0 t) (add_key o kv.0 kv.1 s t r)
 
-put-key : (b : Bool) (o : ℕ) (k : List ℕ) (v : Value) (s : State) (t : Tally) → Sound s t → Sound (A.setProperty b o k v s) (T.put_pair b o k t)
-put-key true o k v s t r = with_keys s t r (changeFirst (isPair (bytes s) o k) (A.withValue v) s.properties) t.pairs (record {
-  inside = all-change (λ p. Inside (bytes s) p.key) (isPair (bytes s) o k) (A.withValue v) (λ p i. i) s.properties r.keys.inside;
-  agree = map-change (pair_of (bytes s)) (isPair (bytes s) o k) (A.withValue v) (λ p. refl) s.properties ∙ r.keys.agree;
+put_key : (b : Bool) (o : ℕ) (k : List ℕ) (v : Value) (s : State) (t : Tally) → Sound s t → Sound (A.set_property b o k v s) (T.put_pair b o k t)
+put_key true o k v s t r = with_keys s t r (change_first (is_pair (bytes s) o k) (A.with_value v) s.properties) t.pairs (record {
+  inside = all_change (λ p. Inside (bytes s) p.key) (is_pair (bytes s) o k) (A.with_value v) (λ p i. i) s.properties r.keys.inside;
+  agree = map_change (pair_of (bytes s)) (is_pair (bytes s) o k) (A.with_value v) (λ p. refl) s.properties ∙ r.keys.agree;
 })
-put-key false o k v s t r = add-key o k v s t r
+put_key false o k v s t r = add_key o k v s t r
 
 -- A global: its name, if it is new, then a text given as bytes.
-put-name : (b : Bool) (n : List ℕ) (g : A.Given) (s : State) (t : Tally) → Sound s t
-    → Sound (A.setGlobal b n g s) (T.addBytes (A.givenBytes g) (T.putName b n t))
-put-name true n g s t r =
-    let named = addText [] s in
-    let all = addText (A.givenBytes g) named in
+put_name_lem : (b : Bool) (n : List ℕ) (g : A.Given) (s : State) (t : Tally) → Sound s t
+    → Sound (A.set_global b n g s) (T.add_bytes (A.given_bytes g) (T.put_name b n t))
+put_name_lem true n g s t r =
+    let named = add_text [] s in
+    let all = add_text (A.given_bytes g) named in
     let e : t.text + 0 ≡ t.text = omega arith in
-    let r₁ : Sound named t = subst (λ (x : ℕ). Sound named (T.tallyText x t)) e (with-text s t r []) in
-    let r₂ = with-text named t r₁ (A.givenBytes g) in
-    with-names all _ r₂ (changeFirst (isNamed (bytes s) n) (A.withGlobal (A.givenValue g named)) s.globals) t.names (record {
-      inside = all-change (λ x. NameInside (bytes all) x.name) (isNamed (bytes s) n) (A.withGlobal (A.givenValue g named)) (λ x i. i) s.globals r₂.names.inside;
-      agree = map-change (name_of (bytes all)) (isNamed (bytes s) n) (A.withGlobal (A.givenValue g named)) (λ x. refl) s.globals ∙ r₂.names.agree;
+    let r₁ : Sound named t = subst (λ (x : ℕ). Sound named (T.tally_text x t)) e (with_text_lem s t r []) in
+    let r₂ = with_text_lem named t r₁ (A.given_bytes g) in
+    with_names all _ r₂ (change_first (is_named (bytes s) n) (A.with_global (A.given_value g named)) s.globals) t.names (record {
+      inside = all_change (λ x. NameInside (bytes all) x.name) (is_named (bytes s) n) (A.with_global (A.given_value g named)) (λ x i. i) s.globals r₂.names.inside;
+      agree = map_change (name_of (bytes all)) (is_named (bytes s) n) (A.with_global (A.given_value g named)) (λ x. refl) s.globals ∙ r₂.names.agree;
     })
-put-name false n g s t r =
-    let named = addText n s in
-    let all = addText (A.givenBytes g) named in
-    let r₂ = with-text named _ (with-text s t r n) (A.givenBytes g) in
-    let new : Global = record { name = kept (nextText s (length n)); value = A.givenValue g named } in
-    let h = slice-new s.text n in
-    let k = grows-text (A.givenBytes g) named (nextText s (length n)) h.0 in
-    with-names all _ r₂ (s.globals ++ new ∷ []) _ (record {
+put_name_lem false n g s t r =
+    let named = add_text n s in
+    let all = add_text (A.given_bytes g) named in
+    let r₂ = with_text_lem named _ (with_text_lem s t r n) (A.given_bytes g) in
+    let new : Global = record { name = kept (next_text s (length n)); value = A.given_value g named } in
+    let h = slice_new s.text n in
+    let k = grows_text (A.given_bytes g) named (next_text s (length n)) h.0 in
+    with_names all _ r₂ (s.globals ++ new ∷ []) _ (record {
       inside = all_append (λ x. NameInside (bytes all) x.name) s.globals (new ∷ []) r₂.names.inside (k.0, tt);
-      agree = map-append (name_of (bytes all)) s.globals (new ∷ [])
+      agree = map_append (name_of (bytes all)) s.globals (new ∷ [])
           ∙ ap₂ (λ (x : List (List ℕ)) (b : List ℕ). x ++ b ∷ []) r₂.names.agree (k.1 ∙ h.1);
     })
 
 -- The machine finds a key or a name exactly where the tally has it.
-any-map : {A B : Type 0} (f : B → Bool) (g : A → B) (xs : List A) → any (λ a. f (g a)) xs ≡ any f (map g xs)
-any-map f g [] = refl
-any-map f g (x ∷ xs) = ap (λ b. f (g x) || b) (any-map f g xs)
+any_map : {A B : Type 0} (f : B → Bool) (g : A → B) (xs : List A) → any (λ a. f (g a)) xs ≡ any f (map g xs)
+any_map f g [] = refl
+any_map f g (x ∷ xs) = ap (λ b. f (g x) || b) (any_map f g xs)
 
-pub has_key : (o : ℕ) (k : List ℕ) (s : State) (t : Tally) → Sound s t → hasProperty s o k ≡ any (T.is_key o k) t.pairs
-has_key o k s t r = any-map (T.is_key o k) (pair_of (bytes s)) s.properties ∙ ap (any (T.is_key o k)) r.keys.agree
+pub has_key : (o : ℕ) (k : List ℕ) (s : State) (t : Tally) → Sound s t → has_property s o k ≡ any (T.is_key o k) t.pairs
+has_key o k s t r = any_map (T.is_key o k) (pair_of (bytes s)) s.properties ∙ ap (any (T.is_key o k)) r.keys.agree
 
-pub has-name : (n : List ℕ) (s : State) (t : Tally) → Sound s t → hasGlobal s n ≡ any (λ m. same m n) t.names
-has-name n s t r = any-map (λ m. same m n) (name_of (bytes s)) s.globals ∙ ap (any (λ m. same m n)) r.names.agree
+pub has_name : (n : List ℕ) (s : State) (t : Tally) → Sound s t → has_global s n ≡ any (λ m. same m n) t.names
+has_name n s t r = any_map (λ m. same m n) (name_of (bytes s)) s.globals ∙ ap (any (λ m. same m n)) r.names.agree
 
 -- Stacks
-pub length-topAt : (p : ℕ) (fs : List Frame) → length (topAt p fs) ≡ length fs
-length-topAt p [] = refl
-length-topAt p (f ∷ fs) = refl
+pub length_top_at : (p : ℕ) (fs : List Frame) → length (top_at p fs) ≡ length fs
+length_top_at p [] = refl
+length_top_at p (f ∷ fs) = refl
 
 pub length_rest : {X : Type 0} (xs : List X) → length (A.rest xs) ≡ length xs - 1
 length_rest [] = refl
 length_rest (x ∷ xs) = omega arith
 
-nested-rest : (n : ℕ) (hs : List Handler) → Nested n hs → Nested n (A.rest hs)
-nested-rest n [] a = tt
-nested-rest n (h ∷ hs) a = nested-more h.frames n hs a.1 a.2
+nested_rest : (n : ℕ) (hs : List Handler) → Nested n hs → Nested n (A.rest hs)
+nested_rest n [] a = tt
+nested_rest n (h ∷ hs) a = nested_more h.frames n hs a.1 a.2
 
-pub push-room : (vs : List Value) (b : Bool) → ltb (length vs) operandLimit ≡ b → ◌≡◌ {A = Option JsVmError} (if b then none else some stackOverflow) none → length vs < operandLimit
-push-room vs true q e = ltb→lt (length vs) operandLimit (rw q tt)
-push-room vs false q e = let z : ◌≡◌ {A = ℕ} 0 1 = cc in omega arith
+pub push_room : (vs : List Value) (b : Bool) → ltb (length vs) operand_limit ≡ b → ◌≡◌ {A = Option JsVmError} (if b then none else some stack_overflow) none → length vs < operand_limit
+push_room vs true q e = ltb→lt (length vs) operand_limit (rw q tt)
+push_room vs false q e = let z : ◌≡◌ {A = ℕ} 0 1 = cc in omega arith
 
-handler-room : (fs : List Frame) → A.or_else noCallFrame fs ≡ none → 1 ≤ length fs
-handler-room [] e = let z : ◌≡◌ {A = ℕ} 0 1 = cc in omega arith
-handler-room (f ∷ fs) e = omega arith
+handler_room : (fs : List Frame) → A.or_else no_call_frame fs ≡ none → 1 ≤ length fs
+handler_room [] e = let z : ◌≡◌ {A = ℕ} 0 1 = cc in omega arith
+handler_room (f ∷ fs) e = omega arith
 
-sound-store : (i : ℕ) (v : Value) (fs : List Frame) (s : State) (t : Tally) → s.frames ≡ fs → Sound s t
-    → Sound (A.storeIn i v fs s) (T.tallyFrames (T.reach i t.frames) t)
-sound-store i v [] s t e r =
-    let z : t.frames ≡ [] = sym r.frames.counts ∙ ap (map F.slotCount) e in
-    with-frames s t r s.frames s.slots (T.reach i t.frames) (rw (ap (T.reach i) z ∙ sym z) r.frames) (omega arith)
-sound-store i v (f ∷ fs) s t e r = with-frames s t r _ _ _ (F.store i v f fs s.slots t.frames (rw e at r.frames)) (let q = ap length e in omega arith)
+sound_store : (i : ℕ) (v : Value) (fs : List Frame) (s : State) (t : Tally) → s.frames ≡ fs → Sound s t
+    → Sound (A.store_in i v fs s) (T.tally_frames (T.reach i t.frames) t)
+sound_store i v [] s t e r =
+    let z : t.frames ≡ [] = sym r.frames.counts ∙ ap (map F.slot_count) e in
+    with_frames s t r s.frames s.slots (T.reach i t.frames) (rw (ap (T.reach i) z ∙ sym z) r.frames) (omega arith)
+sound_store i v (f ∷ fs) s t e r = with_frames s t r _ _ _ (F.store i v f fs s.slots t.frames (rw e at r.frames)) (let q = ap length e in omega arith)
 
-map-rest : (hs : List Handler) → map savedBy (A.rest hs) ≡ A.rest (map savedBy hs)
-map-rest [] = refl
-map-rest (h ∷ hs) = refl
+map_rest : (hs : List Handler) → map saved_by (A.rest hs) ≡ A.rest (map saved_by hs)
+map_rest [] = refl
+map_rest (h ∷ hs) = refl
 
-sound-unwind : (hs : List Handler) (s : State) (t : Tally) → Nested (length s.frames) hs → Sound s t → Sound (A.unwindTo hs s) (T.unwound (map savedBy hs) t)
-sound-unwind [] s t a r = r
-sound-unwind (h ∷ hs) s t a r =
+sound_unwind : (hs : List Handler) (s : State) (t : Tally) → Nested (length s.frames) hs → Sound s t → Sound (A.unwind_to hs s) (T.unwound (map saved_by hs) t)
+sound_unwind [] s t a r = r
+sound_unwind (h ∷ hs) s t a r =
     let m = length-drop (length s.frames - h.frames) s.frames in let b = a.1 in
-    let r₁ = with-stacks s t r _ _ _ hs (map savedBy hs) (F.keepLowest h.frames s.frames s.slots t.frames r.frames) refl
-    (nested-more h.frames (length (lowest h.frames s.frames)) hs (omega arith) a.2) in
+    let r₁ = with_stacks_lem s t r _ _ _ hs (map saved_by hs) (F.keep_lowest h.frames s.frames s.slots t.frames r.frames) refl
+    (nested_more h.frames (length (lowest h.frames s.frames)) hs (omega arith) a.2) in
     let k = length-drop (length s.operands - h.operands) s.operands in let q = r.operands in let l = r.few in
-    with-operands _ _ r₁ (lowest h.operands s.operands) (min h.operands t.operands) (omega arith) (omega arith)
+    with_operands_lem _ _ r₁ (lowest h.operands s.operands) (min h.operands t.operands) (omega arith) (omega arith)
 
-sound-leave : (fs : List Frame) (s : State) (t : Tally) (ns : List ℕ) → Frames fs (take (end_of fs) s.slots) ns → Sound s t → Sound (A.leave fs s) (T.left ns t)
-sound-leave fs s t ns f r =
-    let p = pending-over (length s.frames) (length fs) s.handlers r.saved in
-    let e = F.frames-used fs (take (end_of fs) s.slots) ns f in
-    with-stacks s t r _ _ _ _ _ f (ap (map savedBy) p.each ∙ map-filter savedBy (λ h. leb h.frames (length fs)) s.handlers ∙ ap₂ (λ (n : ℕ). filter (λ (h : T.Saved). leb h.frames n)) e r.handlers) p.nested
+sound_leave : (fs : List Frame) (s : State) (t : Tally) (ns : List ℕ) → Frames fs (take (end_of fs) s.slots) ns → Sound s t → Sound (A.leave fs s) (T.left ns t)
+sound_leave fs s t ns f r =
+    let p = pending_over_lem (length s.frames) (length fs) s.handlers r.saved in
+    let e = F.frames_used fs (take (end_of fs) s.slots) ns f in
+    with_stacks_lem s t r _ _ _ _ _ f (ap (map saved_by) p.each ∙ map_filter saved_by (λ h. leb h.frames (length fs)) s.handlers ∙ ap₂ (λ (n : ℕ). filter (λ (h : T.Saved). leb h.frames n)) e r.handlers) p.nested
 
 pub sound : (a : Act) (s : State) (t : Tally) → error a s ≡ none → Sound s t → Sound (apply a s) (count a t)
 sound (A.push v) s t e r =
-    let h = push-room s.operands (ltb (length s.operands) operandLimit) refl e in let q = r.operands in
-    with-operands s t r (v ∷ s.operands) (t.operands + 1) (omega arith) (omega arith)
+    let h = push_room s.operands (ltb (length s.operands) operand_limit) refl e in let q = r.operands in
+    with_operands_lem s t r (v ∷ s.operands) (t.operands + 1) (omega arith) (omega arith)
 sound A.drop s t e r =
     let h = length_rest s.operands in let q = r.operands in let l = r.few in
-    with-operands s t r (A.rest s.operands) (t.operands - 1) (omega arith) (omega arith)
-sound (A.dropMany n) s t e r =
+    with_operands_lem s t r (A.rest s.operands) (t.operands - 1) (omega arith) (omega arith)
+sound (A.drop_many n) s t e r =
     let h = length-drop n s.operands in let q = r.operands in let l = r.few in
-    with-operands s t r (drop n s.operands) (t.operands - n) (omega arith) (omega arith)
-sound (A.jump p) s t e r = with-frames s t r _ _ _ (F.jump p s.frames s.slots t.frames r.frames) (let k = length-topAt p s.frames in omega arith)
-sound (A.pushFrame i k vs) s t e r = with-frames s t r _ _ _ (F.pushFrame i k vs s.frames s.slots t.frames r.frames) (omega arith)
-sound A.popFrame s t e r = sound-leave (A.rest s.frames) s t (A.rest t.frames) (F.popFrame s.frames s.slots t.frames r.frames) r
-sound (A.store i v) s t e r = sound-store i v s.frames s t refl r
-sound (A.pushHandler p) s t e r =
-    with-handlers s t r _ _
-    (ap₂ (λ (o f : ℕ). record { catch = p; operands = o; frames = f } ∷ map savedBy s.handlers) r.operands (F.frames-used s.frames s.slots t.frames r.frames)
+    with_operands_lem s t r (drop n s.operands) (t.operands - n) (omega arith) (omega arith)
+sound (A.jump p) s t e r = with_frames s t r _ _ _ (F.jump p s.frames s.slots t.frames r.frames) (let k = length_top_at p s.frames in omega arith)
+sound (A.push_frame i k vs) s t e r = with_frames s t r _ _ _ (F.push_frame i k vs s.frames s.slots t.frames r.frames) (omega arith)
+sound A.pop_frame s t e r = sound_leave (A.rest s.frames) s t (A.rest t.frames) (F.pop_frame s.frames s.slots t.frames r.frames) r
+sound (A.store i v) s t e r = sound_store i v s.frames s t refl r
+sound (A.push_handler p) s t e r =
+    with_handlers_lem s t r _ _
+    (ap₂ (λ (o f : ℕ). record { catch = p; operands = o; frames = f } ∷ map saved_by s.handlers) r.operands (F.frames_used s.frames s.slots t.frames r.frames)
     ∙ ap (λ (x : List T.Saved). record { catch = p; operands = t.operands; frames = length t.frames } ∷ x) r.handlers)
-    (handler-room s.frames e, omega arith, r.saved)
-sound A.popHandler s t e r =
-    with-handlers s t r (A.rest s.handlers) _ (map-rest s.handlers ∙ ap A.rest r.handlers) (nested-rest (length s.frames) s.handlers r.saved)
+    (handler_room s.frames e, omega arith, r.saved)
+sound A.pop_handler s t e r =
+    with_handlers_lem s t r (A.rest s.handlers) _ (map_rest s.handlers ∙ ap A.rest r.handlers) (nested_rest (length s.frames) s.handlers r.saved)
 sound A.unwind s t e r =
-    subst (λ (x : List T.Saved). Sound (A.unwindTo s.handlers s) (T.unwound x t)) r.handlers (sound-unwind s.handlers s t r.saved r)
-sound (A.addFunction i k) s t e r = with-functions s t r i k
-sound A.addObject s t e r = with-kind s t r _
-sound (A.addArray vs) s t e r = rw r.objects (add-keys t.objects (A.elements 0 vs) (A.addKind array s) _ (with-kind s t r array))
-sound (A.putProperty o k v) s t e r = rw (← (has_key o k s t r)) (put-key (hasProperty s o k) o k v s t r)
-sound (A.putGlobal n g) s t e r = rw (← (has-name n s t r)) (put-name (hasGlobal s n) n g s t r)
-sound (A.keepText bs) s t e r = with-text s t r bs
-sound (A.print bs) s t e r = with-output s t r _ _ (length-append s.output (A.line bs) ∙ ap₂ (λ (a b : ℕ). a + b) r.output (omega arith))
+    subst (λ (x : List T.Saved). Sound (A.unwind_to s.handlers s) (T.unwound x t)) r.handlers (sound_unwind s.handlers s t r.saved r)
+sound (A.add_function i k) s t e r = with_functions_lem s t r i k
+sound A.add_object s t e r = with_kind s t r _
+sound (A.add_array vs) s t e r = rw r.objects (add_keys t.objects (A.elements 0 vs) (A.add_kind array s) _ (with_kind s t r array))
+sound (A.put_property o k v) s t e r = rw (← (has_key o k s t r)) (put_key (has_property s o k) o k v s t r)
+sound (A.put_global n g) s t e r = rw (← (has_name n s t r)) (put_name_lem (has_global s n) n g s t r)
+sound (A.keep_text bs) s t e r = with_text_lem s t r bs
+sound (A.print bs) s t e r = with_output_lem s t r _ _ (length-append s.output (A.line bs) ∙ ap₂ (λ (a b : ℕ). a + b) r.output (omega arith))
 sound (A.load bs) s t e r = with_code s t r bs
-sound A.emptyOutput s t e r = with-output s t r [] 0 refl
+sound A.empty_output s t e r = with_output_lem s t r [] 0 refl

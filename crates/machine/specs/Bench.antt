@@ -3,16 +3,16 @@ use Rattle.std.specs.Prelude.{◌≡◌, refl, List, [], ◌∷◌, ◌++◌, �
 use Rattle.std.proofs.Common.{ap, ap₂, ◌∙◌, arith}
 use Rattle.machine.specs.Ascii.{ascii}
 use Rattle.machine.specs.Number as N
-use Rattle.machine.specs.NumberText.{originalText}
+use Rattle.machine.specs.NumberText.{original_text}
 use Rattle.machine.specs.Value.{Value}
 use Rattle.machine.specs.State.{State, Store, bytes, fresh, property}
-use Rattle.machine.specs.Convert.{lengthKey, toJsString}
+use Rattle.machine.specs.Convert.{length_key, to_js_string}
 use Rattle.machine.specs.Error.{JsVmError}
-use Rattle.machine.specs.Fields.{setOperands}
+use Rattle.machine.specs.Fields.{set_operands}
 use Rattle.machine.specs.Act.{apply, Act}
 use Rattle.machine.specs.Program.{exec, make, next, End, How, went}
-use Rattle.machine.specs.Instruction.{createArray, setProperty, instruction}
-use Rattle.machine.specs.Run.{Result, Ran, step, after, steps, goOn, stepLimit, endNumber, endValue}
+use Rattle.machine.specs.Instruction.{create_array, set_property, instruction}
+use Rattle.machine.specs.Run.{Result, Ran, step, after, steps, go_on, step_limit, end_number, end_value}
 use Rattle.machine.specs.Host.{Call, Answer, perform, leaves}
 use Rattle.machine.specs.Opcodes.{Row, row, row_of}
 
@@ -21,8 +21,8 @@ abbrev minus : ℕ → ℕ
 minus n = 2 ^ 64 - n
 
 -- What CreateArray 3 leaves over one operand.
-abbrev arrayMade : State
-arrayMade = (exec (createArray 3) (apply (Act.push (Value.number 5)) fresh)).state
+abbrev array_made : State
+array_made = (exec (create_array 3) (apply (Act.push (Value.number 5)) fresh)).state
 
 -- An image of one template, without constants and with less than 256 bytes of code.
 abbrev coded : List ℕ → List ℕ
@@ -41,74 +41,74 @@ abbrev reported : Answer → State → Report
 reported (Answer.refusal n) s = record
     { end = n; steps = 0; operands = length s.operands; frames = length s.frames; handlers = length s.handlers; value = ascii "undefined" }
 reported (Answer.ran e n) s = record {
-  end = endNumber e;
+  end = end_number e;
   steps = n;
   operands = length s.operands;
   frames = length s.frames;
   handlers = length s.handlers;
-  value = toJsString (bytes s) (endValue e);
+  value = to_js_string (bytes s) (end_value e);
 }
 reported (Answer.numbered n) s = record { end = 0; steps = 0; operands = 0; frames = 0; handlers = 0; value = [] }
 reported Answer.done s = record { end = 0; steps = 0; operands = 0; frames = 0; handlers = 0; value = [] }
 reported (Answer.valued v) s = record { end = 0; steps = 0; operands = 0; frames = 0; handlers = 0; value = [] }
 reported (Answer.wrote bs) s = record { end = 0; steps = 0; operands = 0; frames = 0; handlers = 0; value = [] }
 
-abbrev ranLoaded : Answer → State → Report
-ranLoaded (Answer.refusal n) s = reported (Answer.refusal n) s
-ranLoaded (Answer.numbered i) s = let d = perform (Call.run i) s in reported d.answer d.after
-ranLoaded Answer.done s = reported Answer.done s
-ranLoaded (Answer.valued v) s = reported (Answer.valued v) s
-ranLoaded (Answer.ran e n) s = reported (Answer.ran e n) s
-ranLoaded (Answer.wrote bs) s = reported (Answer.wrote bs) s
+abbrev ran_loaded : Answer → State → Report
+ran_loaded (Answer.refusal n) s = reported (Answer.refusal n) s
+ran_loaded (Answer.numbered i) s = let d = perform (Call.run i) s in reported d.answer d.after
+ran_loaded Answer.done s = reported Answer.done s
+ran_loaded (Answer.valued v) s = reported (Answer.valued v) s
+ran_loaded (Answer.ran e n) s = reported (Answer.ran e n) s
+ran_loaded (Answer.wrote bs) s = reported (Answer.wrote bs) s
 
-abbrev pub runImage : List ℕ → Report
-runImage bs = let d = perform (Call.load bs) fresh in ranLoaded d.answer d.after
+abbrev pub run_image : List ℕ → Report
+run_image bs = let d = perform (Call.load bs) fresh in ran_loaded d.answer d.after
 
 -- The starred rows.
 pub record Starred : Type 0 where
   pub squared : N.mul 6442450944 6442450944 ≡ 9663676416
-  pub mulFloor : N.mul (minus 1) 1 ≡ minus 1
-  pub divCut : N.div (minus 1) (2 * N.one) ≡ 0
-  pub divWraps : N.div (2 ^ 63) (minus N.one) ≡ 2 ^ 63
-  pub negLeast : N.neg (2 ^ 63) ≡ 2 ^ 63
-  pub readLeast : N.parseJsNumber (ascii "-2147483648") ≡ 2 ^ 63
-  pub readWraps : N.parseJsNumber (ascii "4294967297") ≡ N.one
-  pub readMinus : N.parseJsNumber (ascii "-") ≡ 0
-  pub readPlus : N.parseJsNumber (ascii "+5") ≡ N.nan
+  pub mul_floor : N.mul (minus 1) 1 ≡ minus 1
+  pub div_cut : N.div (minus 1) (2 * N.one) ≡ 0
+  pub div_wraps : N.div (2 ^ 63) (minus N.one) ≡ 2 ^ 63
+  pub neg_least : N.neg (2 ^ 63) ≡ 2 ^ 63
+  pub read_least : N.parse_js_number (ascii "-2147483648") ≡ 2 ^ 63
+  pub read_wraps : N.parse_js_number (ascii "4294967297") ≡ N.one
+  pub read_minus : N.parse_js_number (ascii "-") ≡ 0
+  pub read_plus : N.parse_js_number (ascii "+5") ≡ N.nan
   -- as change 4 amends the row
-  pub writeHalf : N.formatJsNumber (minus (2 ^ 31)) ≡ ascii "-0.5"
-  pub writeRaw : N.formatJsNumber 1 ≡ ascii "0"
-  pub writeMinusRaw : N.formatJsNumber (minus 1) ≡ ascii "0"
-  pub shift : N.shiftLeft N.one (33 * N.one) ≡ 2 * N.one
-  pub arrayFirst : property arrayMade 0 (ascii "0") ≡ Value.number 5
-  pub arraySecond : property arrayMade 0 (ascii "1") ≡ Value.undefined
-  pub arrayThird : property arrayMade 0 (ascii "2") ≡ Value.undefined
-  pub arrayLength : property arrayMade 0 lengthKey ≡ Value.number (3 * N.one)
-  pub arrayLeft : arrayMade.operands ≡ Value.object 0 ∷ []
-  pub emptyCode : runImage (coded []) ≡ record { end = 0; steps = 2; operands = 0; frames = 0; handlers = 0; value = ascii "undefined" }
+  pub write_half : N.format_js_number (minus (2 ^ 31)) ≡ ascii "-0.5"
+  pub write_raw : N.format_js_number 1 ≡ ascii "0"
+  pub write_minus_raw : N.format_js_number (minus 1) ≡ ascii "0"
+  pub shift : N.shift_left N.one (33 * N.one) ≡ 2 * N.one
+  pub array_first : property array_made 0 (ascii "0") ≡ Value.number 5
+  pub array_second : property array_made 0 (ascii "1") ≡ Value.undefined
+  pub array_third : property array_made 0 (ascii "2") ≡ Value.undefined
+  pub array_length : property array_made 0 length_key ≡ Value.number (3 * N.one)
+  pub array_left : array_made.operands ≡ Value.object 0 ∷ []
+  pub empty_code : run_image (coded []) ≡ record { end = 0; steps = 2; operands = 0; frames = 0; handlers = 0; value = ascii "undefined" }
 
 pub starred : Starred
-unfolding stepLimit
+unfolding step_limit
 starred = record {
   squared = refl;
-  mulFloor = refl;
-  divCut = refl;
-  divWraps = refl;
-  negLeast = refl;
-  readLeast = refl;
-  readWraps = refl;
-  readMinus = refl;
-  readPlus = refl;
-  writeHalf = refl;
-  writeRaw = refl;
-  writeMinusRaw = refl;
+  mul_floor = refl;
+  div_cut = refl;
+  div_wraps = refl;
+  neg_least = refl;
+  read_least = refl;
+  read_wraps = refl;
+  read_minus = refl;
+  read_plus = refl;
+  write_half = refl;
+  write_raw = refl;
+  write_minus_raw = refl;
   shift = refl;
-  arrayFirst = refl;
-  arraySecond = refl;
-  arrayThird = refl;
-  arrayLength = refl;
-  arrayLeft = refl;
-  emptyCode = refl;
+  array_first = refl;
+  array_second = refl;
+  array_third = refl;
+  array_length = refl;
+  array_left = refl;
+  empty_code = refl;
 }
 
 -- The sample image prints `end 0 steps 4 operands 0 frames 1 handlers 0 value 7`.
@@ -117,37 +117,37 @@ sample =
     0x00 ∷ 0x01 ∷ 0x00 ∷ 0x00 ∷ 0x00 ∷ 0x00 ∷ 0x00 ∷ 0x01 ∷ 0x00 ∷ 0x00 ∷ 0x00 ∷ 0x00 ∷ 0x07 ∷ 0x00
     ∷ 0x00 ∷ 0x00 ∷ 0x00 ∷ 0x00 ∷ 0x09 ∷ 0x4B ∷ 0x00 ∷ 0x08 ∷ 0x00 ∷ 0x00 ∷ 0x00 ∷ 0x4A ∷ 0xFF ∷ 0xFF ∷ []
 
-pub sampleRuns : runImage sample ≡ record { end = 0; steps = 4; operands = 0; frames = 1; handlers = 0; value = ascii "7" }
-unfolding stepLimit
-sampleRuns = refl
+pub sample_runs : run_image sample ≡ record { end = 0; steps = 4; operands = 0; frames = 1; handlers = 0; value = ascii "7" }
+unfolding step_limit
+sample_runs = refl
 
 -- The other rows.
 
-abbrev emptyArray : State
-emptyArray = (exec (createArray 0) fresh).state
+abbrev empty_array : State
+empty_array = (exec (create_array 0) fresh).state
 
 -- The length of an empty array after a store at a key.
-abbrev lengthAfter : List ℕ → Value
-lengthAfter k = property (exec (setProperty (Value.object 0) k Value.null) emptyArray).state 0 lengthKey
+abbrev length_after : List ℕ → Value
+length_after k = property (exec (set_property (Value.object 0) k Value.null) empty_array).state 0 length_key
 
 abbrev operands : ℕ → State
-operands n = setOperands (replicate n Value.null) fresh
+operands n = set_operands (replicate n Value.null) fresh
 
 abbrev framed : State
-framed = apply (Act.pushFrame 0 0 []) fresh
+framed = apply (Act.push_frame 0 0 []) fresh
 
 pub record Unstarred : Type 0 where
-  pub plusFive : lengthAfter (ascii "+5") ≡ Value.number (6 * N.one)
-  pub wraps : lengthAfter (ascii "4294967296") ≡ Value.number N.one
+  pub plus_five : length_after (ascii "+5") ≡ Value.number (6 * N.one)
+  pub wraps : length_after (ascii "4294967296") ≡ Value.number N.one
   pub room : (exec (instruction 70) (operands 1023)).how ≡ went
-  pub full : (exec (instruction 70) (operands 1024)).how ≡ How.ended (End.failed JsVmError.stackOverflow)
-  pub keepsObject : length (exec (instruction 60) (operands 1024)).state.objects ≡ 1
-  pub keepsObjectEnds : (exec (instruction 60) (operands 1024)).how ≡ How.ended (End.failed JsVmError.stackOverflow)
-  pub lastSlot : length (exec (make (Act.store 2047 Value.null) next) framed).state.slots ≡ 2048
-  pub no_slot : (exec (make (Act.store 2048 Value.null) next) framed).how ≡ How.refused Store.slotStore
+  pub full : (exec (instruction 70) (operands 1024)).how ≡ How.ended (End.failed JsVmError.stack_overflow)
+  pub keeps_object : length (exec (instruction 60) (operands 1024)).state.objects ≡ 1
+  pub keeps_object_ends : (exec (instruction 60) (operands 1024)).how ≡ How.ended (End.failed JsVmError.stack_overflow)
+  pub last_slot : length (exec (make (Act.store 2047 Value.null) next) framed).state.slots ≡ 2048
+  pub no_slot : (exec (make (Act.store 2048 Value.null) next) framed).how ≡ How.refused Store.slot_store
 
 pub unstarred : Unstarred
-unstarred = record { plusFive = refl; wraps = refl; room = refl; full = refl; keepsObject = refl; keepsObjectEnds = refl; lastSlot = refl; no_slot = refl }
+unstarred = record { plus_five = refl; wraps = refl; room = refl; full = refl; keeps_object = refl; keeps_object_ends = refl; last_slot = refl; no_slot = refl }
 
 -- Twelve handlers stand, and the thirteenth EnterTry is refused.
 abbrev tries : ℕ → List ℕ
@@ -155,13 +155,13 @@ tries zero = []
 tries (suc n) = 0x4B ∷ 0x00 ∷ 0x00 ∷ tries n
 
 pub record Twelve : Type 0 where
-  pub last : (runImage (coded (tries 12))).end ≡ 0
-  pub refused : runImage (coded (tries 13)) ≡ record { end = 22; steps = 13; operands = 0; frames = 1; handlers = 12; value = ascii "undefined" }
+  pub last : (run_image (coded (tries 12))).end ≡ 0
+  pub refused : run_image (coded (tries 13)) ≡ record { end = 22; steps = 13; operands = 0; frames = 1; handlers = 12; value = ascii "undefined" }
   -- a whole EnterTry is asked: a cut operand is 14 first
-  pub cut : (runImage (coded (tries 12 ++ 0x4B ∷ 0x00 ∷ []))).end ≡ 14
+  pub cut : (run_image (coded (tries 12 ++ 0x4B ∷ 0x00 ∷ []))).end ≡ 14
 
 pub twelve : Twelve
-unfolding stepLimit
+unfolding step_limit
 twelve = record { last = refl; refused = refl; cut = refl }
 
 -- An image of two templates, of which the first has one constant, the second as a function.
@@ -176,91 +176,91 @@ returning = 0x46 ∷ 0x4B ∷ 0x00 ∷ 0x00 ∷ 0x33 ∷ []
 
 -- A handler goes with its function. A Return that gives 15, and a Halt, drop none.
 pub record Guarded : Type 0 where
-  pub ranOff : runImage (coded (0x4B ∷ 0x00 ∷ 0x00 ∷ [])) ≡ record { end = 0; steps = 3; operands = 0; frames = 0; handlers = 0; value = ascii "undefined" }
-  pub allGo : runImage (coded (tries 12)) ≡ record { end = 0; steps = 14; operands = 0; frames = 0; handlers = 0; value = ascii "undefined" }
-  pub returned : runImage (coded returning) ≡ record { end = 0; steps = 4; operands = 0; frames = 0; handlers = 0; value = ascii "undefined" }
-  pub notReturned : runImage (coded (0x4B ∷ 0x00 ∷ 0x00 ∷ 0x33 ∷ [])) ≡ record { end = 15; steps = 2; operands = 0; frames = 1; handlers = 1; value = ascii "undefined" }
-  pub halted : runImage (coded (0x4B ∷ 0x00 ∷ 0x00 ∷ 0xFF ∷ [])) ≡ record { end = 0; steps = 2; operands = 0; frames = 1; handlers = 1; value = ascii "undefined" }
+  pub ran_off : run_image (coded (0x4B ∷ 0x00 ∷ 0x00 ∷ [])) ≡ record { end = 0; steps = 3; operands = 0; frames = 0; handlers = 0; value = ascii "undefined" }
+  pub all_go : run_image (coded (tries 12)) ≡ record { end = 0; steps = 14; operands = 0; frames = 0; handlers = 0; value = ascii "undefined" }
+  pub returned : run_image (coded returning) ≡ record { end = 0; steps = 4; operands = 0; frames = 0; handlers = 0; value = ascii "undefined" }
+  pub not_returned : run_image (coded (0x4B ∷ 0x00 ∷ 0x00 ∷ 0x33 ∷ [])) ≡ record { end = 15; steps = 2; operands = 0; frames = 1; handlers = 1; value = ascii "undefined" }
+  pub halted : run_image (coded (0x4B ∷ 0x00 ∷ 0x00 ∷ 0xFF ∷ [])) ≡ record { end = 0; steps = 2; operands = 0; frames = 1; handlers = 1; value = ascii "undefined" }
   -- a Throw after the call: caught by the caller's handler, at the Halt; by none where the caller has none
-  pub caught : runImage (calling (0x4B ∷ 0x00 ∷ 0x09 ∷ 0x00 ∷ 0x00 ∷ 0x00 ∷ 0x32 ∷ 0x00 ∷ 0x4A ∷ 0xFF ∷ []) returning)
+  pub caught : run_image (calling (0x4B ∷ 0x00 ∷ 0x09 ∷ 0x00 ∷ 0x00 ∷ 0x00 ∷ 0x32 ∷ 0x00 ∷ 0x4A ∷ 0xFF ∷ []) returning)
       ≡ record { end = 0; steps = 8; operands = 0; frames = 1; handlers = 0; value = ascii "undefined" }
-  pub uncaught : runImage (calling (0x00 ∷ 0x00 ∷ 0x00 ∷ 0x32 ∷ 0x00 ∷ 0x4A ∷ []) returning)
+  pub uncaught : run_image (calling (0x00 ∷ 0x00 ∷ 0x00 ∷ 0x32 ∷ 0x00 ∷ 0x4A ∷ []) returning)
       ≡ record { end = 17; steps = 6; operands = 0; frames = 1; handlers = 0; value = ascii "undefined" }
 
 pub guarded : Guarded
-unfolding stepLimit
-guarded = record { ranOff = refl; allGo = refl; returned = refl; notReturned = refl; halted = refl; caught = refl; uncaught = refl }
+unfolding step_limit
+guarded = record { ran_off = refl; all_go = refl; returned = refl; not_returned = refl; halted = refl; caught = refl; uncaught = refl }
 
 -- Six digits are cut off the magnitude, and zero is judged after the cut. So raw 1 and raw -1 name element 0, and one half names no element.
 abbrev element : ℕ → State
-element n = (exec (instruction 7) (setOperands (Value.number n ∷ arrayMade.operands) arrayMade)).state
+element n = (exec (instruction 7) (set_operands (Value.number n ∷ array_made.operands) array_made)).state
 
 pub record Fractions : Type 0 where
-  pub below : N.formatJsNumber 4294 ≡ ascii "0"
-  pub first : N.formatJsNumber 4295 ≡ ascii "0.000001"
-  pub firstBelow : N.formatJsNumber (minus 4295) ≡ ascii "-0.000001"
-  pub minusOne : N.formatJsNumber (minus N.one) ≡ ascii "-1"
-  pub minusOneHalf : N.formatJsNumber (minus (N.one + 2 ^ 31)) ≡ ascii "-1.5"
-  pub oneAndRaw : N.formatJsNumber (N.one + 1) ≡ ascii "1"
-  pub least : N.formatJsNumber (2 ^ 63) ≡ ascii "-2147483648"
-  pub most : N.formatJsNumber (2 ^ 63 - 2) ≡ ascii "2147483647.999999"
-  pub notANumber : N.formatJsNumber N.nan ≡ ascii "NaN"
+  pub below : N.format_js_number 4294 ≡ ascii "0"
+  pub first : N.format_js_number 4295 ≡ ascii "0.000001"
+  pub first_below : N.format_js_number (minus 4295) ≡ ascii "-0.000001"
+  pub minus_one : N.format_js_number (minus N.one) ≡ ascii "-1"
+  pub minus_one_half : N.format_js_number (minus (N.one + 2 ^ 31)) ≡ ascii "-1.5"
+  pub one_and_raw : N.format_js_number (N.one + 1) ≡ ascii "1"
+  pub least : N.format_js_number (2 ^ 63) ≡ ascii "-2147483648"
+  pub most : N.format_js_number (2 ^ 63 - 2) ≡ ascii "2147483647.999999"
+  pub not_anumber : N.format_js_number N.nan ≡ ascii "NaN"
   -- 000's texts, by the row as it stood
-  pub originalHalf : originalText (minus (2 ^ 31)) ≡ ascii "-1.5"
-  pub originalRaw : originalText 1 ≡ ascii "0."
-  pub rawElement : (element 1).operands ≡ Value.number 5 ∷ []
-  pub minusRawElement : (element (minus 1)).operands ≡ Value.number 5 ∷ []
-  pub halfElement : (element (2 ^ 31)).operands ≡ Value.undefined ∷ []
-  pub rawStretches : lengthAfter (N.formatJsNumber (5 * N.one + 1)) ≡ Value.number (6 * N.one)
+  pub original_half : original_text (minus (2 ^ 31)) ≡ ascii "-1.5"
+  pub original_raw : original_text 1 ≡ ascii "0."
+  pub raw_element : (element 1).operands ≡ Value.number 5 ∷ []
+  pub minus_raw_element : (element (minus 1)).operands ≡ Value.number 5 ∷ []
+  pub half_element : (element (2 ^ 31)).operands ≡ Value.undefined ∷ []
+  pub raw_stretches : length_after (N.format_js_number (5 * N.one + 1)) ≡ Value.number (6 * N.one)
 
 pub fractions : Fractions
 fractions = record {
   below = refl;
   first = refl;
-  firstBelow = refl;
-  minusOne = refl;
-  minusOneHalf = refl;
-  oneAndRaw = refl;
+  first_below = refl;
+  minus_one = refl;
+  minus_one_half = refl;
+  one_and_raw = refl;
   least = refl;
   most = refl;
-  notANumber = refl;
-  originalHalf = refl;
-  originalRaw = refl;
-  rawElement = refl;
-  minusRawElement = refl;
-  halfElement = refl;
-  rawStretches = refl;
+  not_anumber = refl;
+  original_half = refl;
+  original_raw = refl;
+  raw_element = refl;
+  minus_raw_element = refl;
+  half_element = refl;
+  raw_stretches = refl;
 }
 
 -- Change 6: the rows that document 02 speaks of, and one with operand bytes.
-abbrev rowOfByte : ℕ → Row
-rowOfByte b = row_of (instruction b)
+abbrev row_of_byte : ℕ → Row
+row_of_byte b = row_of (instruction b)
 
 pub record OpcodeRows : Type 0 where
-  pub loadConst : rowOfByte 0 ≡ row 2 0 1
-  pub createArray : rowOfByte 61 ≡ row 1 254 1
-  pub call : rowOfByte 50 ≡ row 1 254 1
-  pub throw : rowOfByte 74 ≡ row 0 1 0
-  pub return : rowOfByte 51 ≡ row 0 1 0
-  pub halt : rowOfByte 255 ≡ row 0 0 0
-  pub dup : rowOfByte 81 ≡ row 0 0 1
-  pub unknown : rowOfByte 9 ≡ row 255 255 255
+  pub load_const : row_of_byte 0 ≡ row 2 0 1
+  pub create_array : row_of_byte 61 ≡ row 1 254 1
+  pub call : row_of_byte 50 ≡ row 1 254 1
+  pub throw : row_of_byte 74 ≡ row 0 1 0
+  pub return : row_of_byte 51 ≡ row 0 1 0
+  pub halt : row_of_byte 255 ≡ row 0 0 0
+  pub dup : row_of_byte 81 ≡ row 0 0 1
+  pub unknown : row_of_byte 9 ≡ row 255 255 255
 
-pub opcodeRows : OpcodeRows
-opcodeRows = record { loadConst = refl; createArray = refl; call = refl; throw = refl; return = refl; halt = refl; dup = refl; unknown = refl }
+pub opcode_rows : OpcodeRows
+opcode_rows = record { load_const = refl; create_array = refl; call = refl; throw = refl; return = refl; halt = refl; dup = refl; unknown = refl }
 
 -- A step that goes on and leaves the state as it was is made until the limit.
 pub record Limited (r : Ran) (n : ℕ) : Type 0 where
   pub made : r.made ≡ n
-  pub result : r.result ≡ Result.ended (End.failed JsVmError.executionLimitExceeded)
+  pub result : r.result ≡ Result.ended (End.failed JsVmError.execution_limit_exceeded)
 
 repeats : (s : State) → (step s).outcome.how ≡ went → after s (step s).outcome ≡ s → (k n : ℕ) → Limited (steps k n s) (k + n)
 repeats s w e zero n = record { made = omega arith; result = refl }
 repeats s w e (suc k) n =
     let h = repeats s w e k (n + 1) in
     let s' = after s (step s).outcome in
-    let same : goOn (step s).outcome.how (n + 1) s' (steps k (n + 1) s') ≡ steps k (n + 1) s
-    = ap (λ (x : How). goOn x (n + 1) s' (steps k (n + 1) s')) w ∙ ap (λ (x : State). steps k (n + 1) x) e in
+    let same : go_on (step s).outcome.how (n + 1) s' (steps k (n + 1) s') ≡ steps k (n + 1) s
+    = ap (λ (x : How). go_on x (n + 1) s' (steps k (n + 1) s')) w ∙ ap (λ (x : State). steps k (n + 1) x) e in
     let m : k + (n + 1) ≡ suc k + n = omega arith in
     record { made = ap (λ (r : Ran). r.made) same ∙ h.made ∙ m; result = ap (λ (r : Ran). r.result) same ∙ h.result }
 
@@ -268,11 +268,11 @@ repeats s w e (suc k) n =
 abbrev jumping : State
 jumping = leaves fresh (Call.load (coded (0x28 ∷ 0x00 ∷ 0x00 ∷ [])) ∷ [])
 
-limit_is : stepLimit + 0 ≡ 100000
-unfolding stepLimit
+limit_is : step_limit + 0 ≡ 100000
+unfolding step_limit
 limit_is = refl
 
-pub jumps : (perform (Call.run 0) jumping).answer ≡ Answer.ran (Result.ended (End.failed JsVmError.executionLimitExceeded)) 100000
+pub jumps : (perform (Call.run 0) jumping).answer ≡ Answer.ran (Result.ended (End.failed JsVmError.execution_limit_exceeded)) 100000
 jumps =
-    let h = repeats (apply (Act.pushFrame 0 0 []) jumping) refl refl stepLimit 0 in
+    let h = repeats (apply (Act.push_frame 0 0 []) jumping) refl refl step_limit 0 in
     ap₂ (λ (e : Result) (n : ℕ). Answer.ran e n) h.result (h.made ∙ limit_is)

@@ -9,57 +9,57 @@ use Rattle.machine.specs.Value.{Value, undefined, null, boolean, number, text, o
 use Rattle.machine.specs.State.{Bytes, bytes_of}
 use Rattle.machine.specs.Number as N
 
-abbrev pub toBoolean : Bytes → Value → Bool
-toBoolean m undefined = false
-toBoolean m null = false
-toBoolean m (boolean b) = b
-toBoolean m (number n) = not (eqb n 0) && not (eqb n N.nan)
-toBoolean m (text t) = not (eqb (length (bytes_of m t)) 0)
-toBoolean m (object o) = true
-toBoolean m (function f) = true
+abbrev pub to_boolean : Bytes → Value → Bool
+to_boolean m undefined = false
+to_boolean m null = false
+to_boolean m (boolean b) = b
+to_boolean m (number n) = not (eqb n 0) && not (eqb n N.nan)
+to_boolean m (text t) = not (eqb (length (bytes_of m t)) 0)
+to_boolean m (object o) = true
+to_boolean m (function f) = true
 
-abbrev pub toNumber : Bytes → Value → ℕ
-toNumber m undefined = N.nan
-toNumber m null = 0
-toNumber m (boolean b) = if b then N.one else 0
-toNumber m (number n) = n
-toNumber m (text t) = N.parseJsNumber (bytes_of m t)
-toNumber m (object o) = N.nan
-toNumber m (function f) = N.nan
+abbrev pub to_number : Bytes → Value → ℕ
+to_number m undefined = N.nan
+to_number m null = 0
+to_number m (boolean b) = if b then N.one else 0
+to_number m (number n) = n
+to_number m (text t) = N.parse_js_number (bytes_of m t)
+to_number m (object o) = N.nan
+to_number m (function f) = N.nan
 
-abbrev pub lengthKey : List ℕ
-lengthKey = ascii "length"
+abbrev pub length_key : List ℕ
+length_key = ascii "length"
 
-abbrev pub booleanText : Bool → List ℕ
-booleanText true = ascii "true"
-booleanText false = ascii "false"
+abbrev pub boolean_text : Bool → List ℕ
+boolean_text true = ascii "true"
+boolean_text false = ascii "false"
 
-abbrev pub toJsString : Bytes → Value → List ℕ
-toJsString m undefined = ascii "undefined"
-toJsString m null = ascii "null"
-toJsString m (boolean b) = booleanText b
-toJsString m (number n) = N.formatJsNumber n
-toJsString m (text t) = bytes_of m t
-toJsString m (object o) = ascii "[object Object]"
-toJsString m (function f) = ascii "function"
+abbrev pub to_js_string : Bytes → Value → List ℕ
+to_js_string m undefined = ascii "undefined"
+to_js_string m null = ascii "null"
+to_js_string m (boolean b) = boolean_text b
+to_js_string m (number n) = N.format_js_number n
+to_js_string m (text t) = bytes_of m t
+to_js_string m (object o) = ascii "[object Object]"
+to_js_string m (function f) = ascii "function"
 
-abbrev pub jsTypeof : Value → List ℕ
-jsTypeof undefined = ascii "undefined"
-jsTypeof null = ascii "object"
-jsTypeof (boolean b) = ascii "boolean"
-jsTypeof (number n) = ascii "number"
-jsTypeof (text t) = ascii "string"
-jsTypeof (object o) = ascii "object"
-jsTypeof (function f) = ascii "function"
+abbrev pub js_typeof : Value → List ℕ
+js_typeof undefined = ascii "undefined"
+js_typeof null = ascii "object"
+js_typeof (boolean b) = ascii "boolean"
+js_typeof (number n) = ascii "number"
+js_typeof (text t) = ascii "string"
+js_typeof (object o) = ascii "object"
+js_typeof (function f) = ascii "function"
 
-abbrev pub isText : Value → Bool
-isText undefined = false
-isText null = false
-isText (boolean b) = false
-isText (number n) = false
-isText (text t) = true
-isText (object o) = false
-isText (function f) = false
+abbrev pub is_text : Value → Bool
+is_text undefined = false
+is_text null = false
+is_text (boolean b) = false
+is_text (number n) = false
+is_text (text t) = true
+is_text (object o) = false
+is_text (function f) = false
 
 -- A value as its kind and its content. Two values are `strict_eq` when these are the same: the diagonal of 000's match.
 pub data Seen : Type 0 where
@@ -74,41 +74,41 @@ see m (text t) = seen 4 (bytes_of m t)
 see m (object o) = seen 5 (o ∷ [])
 see m (function f) = seen 6 (f ∷ [])
 
-abbrev pub sameSeen : Seen → Seen → Bool
-sameSeen (seen k xs) (seen l ys) = eqb k l && same xs ys
+abbrev pub same_seen : Seen → Seen → Bool
+same_seen (seen k xs) (seen l ys) = eqb k l && same xs ys
 
-abbrev pub strictEq : Bytes → Value → Value → Bool
-strictEq m a b = sameSeen (see m a) (see m b)
+abbrev pub strict_eq : Bytes → Value → Value → Bool
+strict_eq m a b = same_seen (see m a) (see m b)
 
 -- `abstract_eq` where `strict_eq` says no: null with undefined, and a number with a text that reads as it.
-abbrev pub looseSeen : Seen → Seen → Bool
-looseSeen (seen k xs) (seen l ys) =
+abbrev pub loose_seen : Seen → Seen → Bool
+loose_seen (seen k xs) (seen l ys) =
     (eqb k 0 && eqb l 1) || (eqb k 1 && eqb l 0)
-    || (eqb k 3 && eqb l 4 && same xs (N.parseJsNumber ys ∷ []))
-    || (eqb k 4 && eqb l 3 && same (N.parseJsNumber xs ∷ []) ys)
+    || (eqb k 3 && eqb l 4 && same xs (N.parse_js_number ys ∷ []))
+    || (eqb k 4 && eqb l 3 && same (N.parse_js_number xs ∷ []) ys)
 
-abbrev pub abstractEq : Bytes → Value → Value → Bool
-abstractEq m a b = strictEq m a b || looseSeen (see m a) (see m b)
+abbrev pub abstract_eq : Bytes → Value → Value → Bool
+abstract_eq m a b = strict_eq m a b || loose_seen (see m a) (see m b)
 
 -- A numeric array key (`parse::<usize>`): an optional `+` and one or more digits worth less than 2^64.
 abbrev pub worth : ℕ → List ℕ → Option ℕ
 worth n [] = if ltb n (2 ^ 64) then some n else none
-worth n (b ∷ bs) = if N.isDigit b then worth (n * 10 + (b - 48)) bs else none
+worth n (b ∷ bs) = if N.is_digit b then worth (n * 10 + (b - 48)) bs else none
 
-abbrev pub digitsKey : List ℕ → Option ℕ
-digitsKey [] = none
-digitsKey (b ∷ bs) = worth 0 (b ∷ bs)
+abbrev pub digits_key : List ℕ → Option ℕ
+digits_key [] = none
+digits_key (b ∷ bs) = worth 0 (b ∷ bs)
 
-abbrev pub arrayKey : List ℕ → Option ℕ
-arrayKey [] = none
-arrayKey (b ∷ bs) = if eqb b 43 then digitsKey bs else digitsKey (b ∷ bs)
+abbrev pub array_key : List ℕ → Option ℕ
+array_key [] = none
+array_key (b ∷ bs) = if eqb b 43 then digits_key bs else digits_key (b ∷ bs)
 
 -- What `set_property` takes for an array's length: its floor as unsigned 64 bits, 0 if it is not a number.
-abbrev pub lengthFloor : Value → ℕ
-lengthFloor undefined = 0
-lengthFloor null = 0
-lengthFloor (boolean b) = 0
-lengthFloor (number n) = N.floorWide n
-lengthFloor (text t) = 0
-lengthFloor (object o) = 0
-lengthFloor (function f) = 0
+abbrev pub length_floor : Value → ℕ
+length_floor undefined = 0
+length_floor null = 0
+length_floor (boolean b) = 0
+length_floor (number n) = N.floor_wide n
+length_floor (text t) = 0
+length_floor (object o) = 0
+length_floor (function f) = 0

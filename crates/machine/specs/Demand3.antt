@@ -1,13 +1,13 @@
 -- Demand 3: one claim about every list of calls from a fresh engine. Assumes nothing.
 use Rattle.std.specs.Prelude.{◌≡◌, ◌↔◌, Bool, true, false, List, [], ◌∷◌, ◌++◌, map, ℕ, ◌+◌, ◌*◌, ◌≤◌, ◌<◌, min, leb, eqb, length, get_or}
 use Rattle.machine.specs.Basic.{filter, lowest, sum_of}
-use Rattle.machine.specs.Value.{Value, Home, in_code, inText}
-use Rattle.machine.specs.State.{State, Bytes, bytes, Frame, Handler, Store, fresh, running, bytes_of, end_of, limit, used, operandLimit, setIp, question}
+use Rattle.machine.specs.Value.{Value, Home, in_code, in_text}
+use Rattle.machine.specs.State.{State, Bytes, bytes, Frame, Handler, Store, fresh, running, bytes_of, end_of, limit, used, operand_limit, set_ip, question}
 use Rattle.machine.specs.Act.{Given, Held, rest}
 use Rattle.machine.specs.Program.{Event, asked, did, How, went, ended, refused}
-use Rattle.machine.specs.Run.{Kind, begun, runOut, noFrame, Step, Result, after}
+use Rattle.machine.specs.Run.{Kind, begun, run_out, no_frame, Step, Result, after}
 use Rattle.machine.specs.Host.{Call, Answer, Called, history}
-use Rattle.machine.specs.Tally.{Tally, Saved, nothing, useOf, tallyCode, tallyImages, tallyFunctions, tallyFrames, tallyOutput, addGiven, count, counted, unlessRefused}
+use Rattle.machine.specs.Tally.{Tally, Saved, nothing, use_of, tally_code, tally_images, tally_functions, tally_frames, tally_output, add_given, count, counted, unless_refused}
 
 abbrev pub All : {A : Type 0} → (A → Type 0) → List A → Type 0
 All P [] = Unit {0}
@@ -23,9 +23,9 @@ Contiguous (f ∷ fs) = (f.base ≡ end_of fs) × Contiguous fs
 
 pub record Orderly (s : State) : Type 0 where
   pub contiguous : Contiguous s.frames
-  pub noOthers : length s.slots ≡ end_of s.frames
+  pub no_others : length s.slots ≡ end_of s.frames
   pub bounded : (q : Store) → used s q ≤ limit q
-  pub operands : length s.operands ≤ operandLimit
+  pub operands : length s.operands ≤ operand_limit
   pub handlers : All (λ h. h.frames ≤ length s.frames) s.handlers
 
 abbrev pub OrderlyCall : Called → Type 0
@@ -34,18 +34,18 @@ OrderlyCall d = Orderly d.before × All (λ t. Orderly t.before) d.steps × Orde
 -- 2. Held texts, from the load, call or instruction that brings them until the next clear. Each has the bytes that it came with before each
 -- step and after each call.
 
-abbrev pub broughtBy : List Event → List Held
-broughtBy [] = []
-broughtBy (asked a n b ∷ es) = broughtBy es
-broughtBy (did a hs ∷ es) = hs ++ broughtBy es
+abbrev pub brought_by : List Event → List Held
+brought_by [] = []
+brought_by (asked a n b ∷ es) = brought_by es
+brought_by (did a hs ∷ es) = hs ++ brought_by es
 
-abbrev pub unlessUndone : How → List Held → List Held
-unlessUndone went hs = hs
-unlessUndone (ended e) hs = hs
-unlessUndone (refused q) hs = []
+abbrev pub unless_undone : How → List Held → List Held
+unless_undone went hs = hs
+unless_undone (ended e) hs = hs
+unless_undone (refused q) hs = []
 
-abbrev pub broughtIn : Step → List Held
-broughtIn t = unlessUndone t.outcome.how (broughtBy t.outcome.events)
+abbrev pub brought_in : Step → List Held
+brought_in t = unless_undone t.outcome.how (brought_by t.outcome.events)
 
 -- A handle that a host call keeps, with the bytes that it names then.
 abbrev pub handle : Bytes → Value → List Held
@@ -57,140 +57,140 @@ handle m (Value.text t) = record { text = t; bytes = bytes_of m t } ∷ []
 handle m (Value.object o) = []
 handle m (Value.function f) = []
 
-abbrev pub handleGiven : Bytes → Given → List Held
-handleGiven m (Given.plain v) = handle m v
-handleGiven m (Given.asBytes bs) = []
+abbrev pub handle_given : Bytes → Given → List Held
+handle_given m (Given.plain v) = handle m v
+handle_given m (Given.as_bytes bs) = []
 
 abbrev pub handle_of : Bytes → Call → List Held
 handle_of m (Call.load bs) = []
 handle_of m (Call.register i t) = []
-handle_of m (Call.setGlobal n g) = handleGiven m g
-handle_of m (Call.readGlobal n) = []
+handle_of m (Call.set_global n g) = handle_given m g
+handle_of m (Call.read_global n) = []
 handle_of m (Call.run i) = []
 handle_of m (Call.text g n) = []
 handle_of m (Call.drain n) = []
 handle_of m Call.clear = []
 
 -- What is held once a call is accepted; of a run, before its first step.
-abbrev pub heldAccepted : Call → List Held → List Held → List Held
-heldAccepted (Call.load bs) hs new = hs ++ new
-heldAccepted (Call.register i t) hs new = hs ++ new
-heldAccepted (Call.setGlobal n g) hs new = hs ++ new
-heldAccepted (Call.readGlobal n) hs new = hs ++ new
-heldAccepted (Call.run i) hs new = hs ++ new
-heldAccepted (Call.text g n) hs new = hs ++ new
-heldAccepted (Call.drain n) hs new = hs ++ new
-heldAccepted Call.clear hs new = []
+abbrev pub held_accepted : Call → List Held → List Held → List Held
+held_accepted (Call.load bs) hs new = hs ++ new
+held_accepted (Call.register i t) hs new = hs ++ new
+held_accepted (Call.set_global n g) hs new = hs ++ new
+held_accepted (Call.read_global n) hs new = hs ++ new
+held_accepted (Call.run i) hs new = hs ++ new
+held_accepted (Call.text g n) hs new = hs ++ new
+held_accepted (Call.drain n) hs new = hs ++ new
+held_accepted Call.clear hs new = []
 
 -- One for a refused call, the other for an accepted one.
-abbrev pub unlessRefusal : {A : Type 0} → Answer → A → A → A
-unlessRefusal (Answer.refusal n) x y = x
-unlessRefusal (Answer.numbered n) x y = y
-unlessRefusal Answer.done x y = y
-unlessRefusal (Answer.valued v) x y = y
-unlessRefusal (Answer.ran e n) x y = y
-unlessRefusal (Answer.wrote bs) x y = y
+abbrev pub unless_refusal : {A : Type 0} → Answer → A → A → A
+unless_refusal (Answer.refusal n) x y = x
+unless_refusal (Answer.numbered n) x y = y
+unless_refusal Answer.done x y = y
+unless_refusal (Answer.valued v) x y = y
+unless_refusal (Answer.ran e n) x y = y
+unless_refusal (Answer.wrote bs) x y = y
 
-abbrev pub heldStart : List Held → Called → List Held
-heldStart hs d = unlessRefusal d.answer hs (heldAccepted d.call hs (broughtBy d.events ++ handle_of (bytes d.before) d.call))
+abbrev pub held_start : List Held → Called → List Held
+held_start hs d = unless_refusal d.answer hs (held_accepted d.call hs (brought_by d.events ++ handle_of (bytes d.before) d.call))
 
-abbrev pub heldSteps : List Held → List Step → List Held
-heldSteps hs [] = hs
-heldSteps hs (t ∷ ts) = heldSteps (hs ++ broughtIn t) ts
+abbrev pub held_steps : List Held → List Step → List Held
+held_steps hs [] = hs
+held_steps hs (t ∷ ts) = held_steps (hs ++ brought_in t) ts
 
-abbrev pub heldCall : List Held → Called → List Held
-heldCall hs d = heldSteps (heldStart hs d) d.steps
+abbrev pub held_call : List Held → Called → List Held
+held_call hs d = held_steps (held_start hs d) d.steps
 
 abbrev pub HasBytes : State → Held → Type 0
 HasBytes s h = bytes_of (bytes s) h.text ≡ h.bytes
 
 abbrev pub TextsSteps : List Held → List Step → Type 0
 TextsSteps hs [] = Unit {0}
-TextsSteps hs (t ∷ ts) = All (HasBytes t.before) hs × TextsSteps (hs ++ broughtIn t) ts
+TextsSteps hs (t ∷ ts) = All (HasBytes t.before) hs × TextsSteps (hs ++ brought_in t) ts
 
 abbrev pub TextsCalls : List Held → List Called → Type 0
 TextsCalls hs [] = Unit {0}
 TextsCalls hs (d ∷ ds) =
-    TextsSteps (heldStart hs d) d.steps × All (HasBytes d.after) (heldCall hs d) × TextsCalls (heldCall hs d) ds
+    TextsSteps (held_start hs d) d.steps × All (HasBytes d.after) (held_call hs d) × TextsCalls (held_call hs d) ds
 
 -- 3. Space questions, each against the tally up to there: answered no exactly where the tally and the amount are above the limit; the amount
 -- is what the act adds to that use; and after a no nothing else is asked or done. What an act adds to the text store's use are the texts that it
 -- brings there: no byte that is counted is of a text that is not held.
 
-abbrev pub bytesIn : Home → ℕ → ℕ
-bytesIn in_code n = 0
-bytesIn inText n = n
+abbrev pub bytes_in : Home → ℕ → ℕ
+bytes_in in_code n = 0
+bytes_in in_text n = n
 
 -- the bytes of the texts that lie in the text store
-abbrev pub storedBytes : List Held → ℕ
-storedBytes hs = sum_of (λ h. bytesIn h.text.store h.text.size) hs
+abbrev pub stored_bytes : List Held → ℕ
+stored_bytes hs = sum_of (λ h. bytes_in h.text.store h.text.size) hs
 
 abbrev pub Right : Tally → List Event → Type 0
 Right t [] = Unit {0}
 Right t (asked a n b ∷ es) =
-    ((b ≡ false) ↔ (limit n.of < useOf t n.of + n.amount))
-    × (useOf (count a t) n.of ≡ useOf t n.of + n.amount)
+    ((b ≡ false) ↔ (limit n.of < use_of t n.of + n.amount))
+    × (use_of (count a t) n.of ≡ use_of t n.of + n.amount)
     × (b ≡ false → es ≡ [])
     × Right t es
-Right t (did a hs ∷ es) = ((count a t).text ≡ t.text + storedBytes hs) × Right (count a t) es
+Right t (did a hs ∷ es) = ((count a t).text ≡ t.text + stored_bytes hs) × Right (count a t) es
 
-abbrev pub tallyStep : Tally → Step → Tally
-tallyStep t p = unlessRefused p.outcome.how t (counted t p.outcome.events)
+abbrev pub tally_step : Tally → Step → Tally
+tally_step t p = unless_refused p.outcome.how t (counted t p.outcome.events)
 
-abbrev pub tallySteps : Tally → List Step → Tally
-tallySteps t [] = t
-tallySteps t (p ∷ ps) = tallySteps (tallyStep t p) ps
+abbrev pub tally_steps : Tally → List Step → Tally
+tally_steps t [] = t
+tally_steps t (p ∷ ps) = tally_steps (tally_step t p) ps
 
 abbrev pub RightSteps : Tally → List Step → Type 0
 RightSteps t [] = Unit {0}
-RightSteps t (p ∷ ps) = Right t p.outcome.events × RightSteps (tallyStep t p) ps
+RightSteps t (p ∷ ps) = Right t p.outcome.events × RightSteps (tally_step t p) ps
 
 -- An accepted call, by its arguments; a run, before its steps.
-abbrev pub tallyAccepted : Call → Tally → Tally
-tallyAccepted (Call.load bs) t = tallyCode (t.code + length bs) (tallyImages (t.images + 1) t)
-tallyAccepted (Call.register i k) t = tallyFunctions (t.functions + 1) t
-tallyAccepted (Call.setGlobal n g) t = addGiven n g t
-tallyAccepted (Call.readGlobal n) t = t
-tallyAccepted (Call.run i) t = tallyFrames (0 ∷ t.frames) t
-tallyAccepted (Call.text g n) t = t
-tallyAccepted (Call.drain n) t = tallyOutput 0 t
-tallyAccepted Call.clear t = nothing
+abbrev pub tally_accepted : Call → Tally → Tally
+tally_accepted (Call.load bs) t = tally_code (t.code + length bs) (tally_images (t.images + 1) t)
+tally_accepted (Call.register i k) t = tally_functions (t.functions + 1) t
+tally_accepted (Call.set_global n g) t = add_given n g t
+tally_accepted (Call.read_global n) t = t
+tally_accepted (Call.run i) t = tally_frames (0 ∷ t.frames) t
+tally_accepted (Call.text g n) t = t
+tally_accepted (Call.drain n) t = tally_output 0 t
+tally_accepted Call.clear t = nothing
 
-abbrev pub tallyStart : Tally → Called → Tally
-tallyStart t d = unlessRefusal d.answer t (tallyAccepted d.call t)
+abbrev pub tally_start : Tally → Called → Tally
+tally_start t d = unless_refusal d.answer t (tally_accepted d.call t)
 
 abbrev pub RightCalls : Tally → List Called → Type 0
 RightCalls t [] = Unit {0}
 RightCalls t (d ∷ ds) =
-    Right t d.events × RightSteps (tallyStart t d) d.steps × RightCalls (tallySteps (tallyStart t d) d.steps) ds
+    Right t d.events × RightSteps (tally_start t d) d.steps × RightCalls (tally_steps (tally_start t d) d.steps) ds
 
 -- The texts brought since the last clear account for the text store's use: all that is held but the handles that host calls keep, which name
 -- bytes that are there already.
 
-abbrev pub keptStart : List Held → Called → List Held
-keptStart hs d = unlessRefusal d.answer hs (heldAccepted d.call hs (broughtBy d.events))
+abbrev pub kept_start : List Held → Called → List Held
+kept_start hs d = unless_refusal d.answer hs (held_accepted d.call hs (brought_by d.events))
 
-abbrev pub keptCall : List Held → Called → List Held
-keptCall hs d = heldSteps (keptStart hs d) d.steps
+abbrev pub kept_call : List Held → Called → List Held
+kept_call hs d = held_steps (kept_start hs d) d.steps
 
 abbrev pub StoredCalls : Tally → List Held → List Called → Type 0
 StoredCalls t hs [] = Unit {0}
 StoredCalls t hs (d ∷ ds) =
-    let u = tallySteps (tallyStart t d) d.steps in (u.text ≡ storedBytes (keptCall hs d)) × StoredCalls u (keptCall hs d) ds
+    let u = tally_steps (tally_start t d) d.steps in (u.text ≡ stored_bytes (kept_call hs d)) × StoredCalls u (kept_call hs d) ds
 
 -- A call or a run gives the number of a space question exactly where that question was its last and was answered no; and every step of a run
 -- but the last went on.
 
-abbrev pub refusedLast : Store → List Event → Type 0
-refusedLast q [] = ⊥
-refusedLast q (asked a n b ∷ []) = (n.of ≡ q) × (b ≡ false)
-refusedLast q (asked a n b ∷ (e ∷ es)) = refusedLast q (e ∷ es)
-refusedLast q (did a hs ∷ es) = refusedLast q es
+abbrev pub refused_last : Store → List Event → Type 0
+refused_last q [] = ⊥
+refused_last q (asked a n b ∷ []) = (n.of ≡ q) × (b ≡ false)
+refused_last q (asked a n b ∷ (e ∷ es)) = refused_last q (e ∷ es)
+refused_last q (did a hs ∷ es) = refused_last q es
 
-abbrev pub refusedAtLast : Store → List Step → Type 0
-refusedAtLast q [] = ⊥
-refusedAtLast q (t ∷ []) = refusedLast q t.outcome.events
-refusedAtLast q (t ∷ (u ∷ ts)) = refusedAtLast q (u ∷ ts)
+abbrev pub refused_at_last : Store → List Step → Type 0
+refused_at_last q [] = ⊥
+refused_at_last q (t ∷ []) = refused_last q t.outcome.events
+refused_at_last q (t ∷ (u ∷ ts)) = refused_at_last q (u ∷ ts)
 
 abbrev pub WentOn : List Step → Type 0
 WentOn [] = Unit {0}
@@ -210,26 +210,26 @@ RanFull q (Answer.ran e n) = IsFull q e
 RanFull q (Answer.wrote bs) = ⊥
 
 pub record Honest (d : Called) : Type 0 where
-  pub calls : (q : Store) → (d.answer ≡ Answer.refusal (question q)) ↔ refusedLast q d.events
-  pub runs : (q : Store) → RanFull q d.answer ↔ refusedAtLast q d.steps
-  pub wentOn : WentOn d.steps
+  pub calls : (q : Store) → (d.answer ≡ Answer.refusal (question q)) ↔ refused_last q d.events
+  pub runs : (q : Store) → RanFull q d.answer ↔ refused_at_last q d.steps
+  pub went_on : WentOn d.steps
 
 -- 4. Steps = opcodes begun + frames run out + 1 if the run finished with no frame.
 
-abbrev pub isBegun : Kind → ℕ
-isBegun (begun b) = 1
-isBegun runOut = 0
-isBegun noFrame = 0
+abbrev pub is_begun : Kind → ℕ
+is_begun (begun b) = 1
+is_begun run_out = 0
+is_begun no_frame = 0
 
-abbrev pub isRunOut : Kind → ℕ
-isRunOut (begun b) = 0
-isRunOut runOut = 1
-isRunOut noFrame = 0
+abbrev pub is_run_out : Kind → ℕ
+is_run_out (begun b) = 0
+is_run_out run_out = 1
+is_run_out no_frame = 0
 
-abbrev pub isNoFrame : Kind → ℕ
-isNoFrame (begun b) = 0
-isNoFrame runOut = 0
-isNoFrame noFrame = 1
+abbrev pub is_no_frame : Kind → ℕ
+is_no_frame (begun b) = 0
+is_no_frame run_out = 0
+is_no_frame no_frame = 1
 
 abbrev pub total : (Kind → ℕ) → List Step → ℕ
 total f [] = 0
@@ -238,61 +238,61 @@ total f (t ∷ ts) = f t.kind + total f ts
 -- 1 if the last step is a finish with no frame
 abbrev pub finish : List Step → ℕ
 finish [] = 0
-finish (t ∷ []) = isNoFrame t.kind
+finish (t ∷ []) = is_no_frame t.kind
 finish (t ∷ (u ∷ ts)) = finish (u ∷ ts)
 
 abbrev pub Summed : Called → Type 0
-Summed d = (e : Result) (n : ℕ) → d.answer ≡ Answer.ran e n → n ≡ total isBegun d.steps + total isRunOut d.steps + finish d.steps
+Summed d = (e : Result) (n : ℕ) → d.answer ≡ Answer.ran e n → n ≡ total is_begun d.steps + total is_run_out d.steps + finish d.steps
 
 -- 5. Handlers. Those that are pending are the tally's, before each step and after each call.
 
 -- What a handler saved, as the tally has it.
-abbrev pub savedBy : Handler → Saved
-savedBy h = record { catch = h.catch; operands = h.operands; frames = h.frames }
+abbrev pub saved_by : Handler → Saved
+saved_by h = record { catch = h.catch; operands = h.operands; frames = h.frames }
 
 abbrev pub Pending : Tally → State → Type 0
-Pending k s = map savedBy s.handlers ≡ k.handlers
+Pending k s = map saved_by s.handlers ≡ k.handlers
 
 abbrev pub PendingSteps : Tally → List Step → Type 0
 PendingSteps k [] = Unit {0}
-PendingSteps k (t ∷ ts) = Pending k t.before × PendingSteps (tallyStep k t) ts
+PendingSteps k (t ∷ ts) = Pending k t.before × PendingSteps (tally_step k t) ts
 
 abbrev pub PendingCalls : Tally → List Called → Type 0
 PendingCalls k [] = Unit {0}
 PendingCalls k (d ∷ ds) =
-    let u = tallySteps (tallyStart k d) d.steps in PendingSteps (tallyStart k d) d.steps × Pending u d.after × PendingCalls u ds
+    let u = tally_steps (tally_start k d) d.steps in PendingSteps (tally_start k d) d.steps × Pending u d.after × PendingCalls u ds
 
 -- Return, or running off the end: one that goes on has taken the newest frame off, and with it each handler that saved more frames than are
 -- left, and no other.
 
-abbrev pub takesFrame : Kind → Bool
-takesFrame (begun b) = eqb b 51
-takesFrame runOut = true
-takesFrame noFrame = false
+abbrev pub takes_frame : Kind → Bool
+takes_frame (begun b) = eqb b 51
+takes_frame run_out = true
+takes_frame no_frame = false
 
 -- the handlers that saved at most n frames
-abbrev pub savedWithin : ℕ → List Handler → List Handler
-savedWithin n = filter (λ h. leb h.frames n)
+abbrev pub saved_within : ℕ → List Handler → List Handler
+saved_within n = filter (λ h. leb h.frames n)
 
 pub record Dropped (t : Step) : Type 0 where
   pub frames : (after t.before t.outcome).frames ≡ rest t.before.frames
-  pub handlers : (after t.before t.outcome).handlers ≡ savedWithin (length (after t.before t.outcome).frames) t.before.handlers
+  pub handlers : (after t.before t.outcome).handlers ≡ saved_within (length (after t.before t.outcome).frames) t.before.handlers
 
 abbrev pub Drops : Step → Type 0
-Drops t = takesFrame t.kind ≡ true → t.outcome.how ≡ went → Dropped t
+Drops t = takes_frame t.kind ≡ true → t.outcome.how ≡ went → Dropped t
 
 -- Throw: one that has popped its value v, with a handler pending by the tally: h is what its EnterTry saved, as tallied there. Operands are
 -- cut to what h saved, or to those that stand where they are fewer; exactly the frames that h saved are left; the value is pushed, and the frame
 -- then on top goes on at h's catch place; the handlers left are the tally's others.
 
 pub record Caught (t : Step) (v : Value) (vs : List Value) (h : Saved) (hs : List Saved) : Type 0 where
-  pub noError : t.outcome.how ≡ went
+  pub no_error : t.outcome.how ≡ went
   pub operands : (after t.before t.outcome).operands ≡ v ∷ lowest (min (length vs) h.operands) vs
-  pub handlers : map savedBy (after t.before t.outcome).handlers ≡ hs
+  pub handlers : map saved_by (after t.before t.outcome).handlers ≡ hs
   pub top : Frame
   pub below : List Frame
   pub left : lowest h.frames t.before.frames ≡ top ∷ below
-  pub frames : (after t.before t.outcome).frames ≡ setIp h.catch top ∷ below
+  pub frames : (after t.before t.outcome).frames ≡ set_ip h.catch top ∷ below
   pub saved : length (after t.before t.outcome).frames ≡ h.frames
 
 abbrev pub Throws : Tally → Step → Type 0
@@ -301,11 +301,11 @@ Throws k t = t.kind ≡ begun 74 → (v : Value) (vs : List Value) (h : Saved) (
 
 abbrev pub ThrowsSteps : Tally → List Step → Type 0
 ThrowsSteps k [] = Unit {0}
-ThrowsSteps k (t ∷ ts) = Throws k t × ThrowsSteps (tallyStep k t) ts
+ThrowsSteps k (t ∷ ts) = Throws k t × ThrowsSteps (tally_step k t) ts
 
 abbrev pub ThrowsCalls : Tally → List Called → Type 0
 ThrowsCalls k [] = Unit {0}
-ThrowsCalls k (d ∷ ds) = ThrowsSteps (tallyStart k d) d.steps × ThrowsCalls (tallySteps (tallyStart k d) d.steps) ds
+ThrowsCalls k (d ∷ ds) = ThrowsSteps (tally_start k d) d.steps × ThrowsCalls (tally_steps (tally_start k d) d.steps) ds
 
 -- EnterTry: one that goes on saves the catch place that its operand says, and the operands and the frames that stand there.
 
@@ -314,14 +314,14 @@ abbrev pub word_at : List ℕ → ℕ → ℕ → ℕ
 word_at code high low = get_or code high 0 * 256 + get_or code low 0
 
 -- the operand behind the opcode at the newest frame's place
-abbrev pub operandOf : State → List Frame → ℕ
-operandOf s [] = 0
-operandOf s (f ∷ fs) = word_at s.code ((running s f).at + (f.ip + 1)) ((running s f).at + (f.ip + 1 + 1))
+abbrev pub operand_of : State → List Frame → ℕ
+operand_of s [] = 0
+operand_of s (f ∷ fs) = word_at s.code ((running s f).at + (f.ip + 1)) ((running s f).at + (f.ip + 1 + 1))
 
 abbrev pub Enters : Step → Type 0
 Enters t = t.kind ≡ begun 75 → t.outcome.how ≡ went
     → (after t.before t.outcome).handlers
-    ≡ record { catch = operandOf t.before t.before.frames; operands = length t.before.operands; frames = length t.before.frames } ∷ t.before.handlers
+    ≡ record { catch = operand_of t.before t.before.frames; operands = length t.before.operands; frames = length t.before.frames } ∷ t.before.handlers
 
 -- The claim
 pub record Demand3 (calls : List Call) : Type 0 where

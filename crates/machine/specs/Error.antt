@@ -4,19 +4,19 @@ use Rattle.machine.specs.Value.{Value}
 
 -- An unknown opcode carries its byte, an uncaught exception the thrown value (000: the value's text).
 pub data JsVmError : Type 0 where
-  executionLimitExceeded : JsVmError
-  unknownOpcode : ℕ → JsVmError
-  ipOutOfBounds stackUnderflow stackOverflow : JsVmError
-  uncaughtException : Value → JsVmError
-  notCallable invalidFunctionId noCallFrame : JsVmError
+  execution_limit_exceeded : JsVmError
+  unknown_opcode : ℕ → JsVmError
+  ip_out_of_bounds stack_underflow stack_overflow : JsVmError
+  uncaught_exception : Value → JsVmError
+  not_callable invalid_function_id no_call_frame : JsVmError
 
-abbrev pub errorNumber : JsVmError → ℕ
-errorNumber executionLimitExceeded = 12
-errorNumber (unknownOpcode b) = 13
-errorNumber ipOutOfBounds = 14
-errorNumber stackUnderflow = 15
-errorNumber stackOverflow = 16
-errorNumber (uncaughtException v) = 17
-errorNumber notCallable = 18
-errorNumber invalidFunctionId = 19
-errorNumber noCallFrame = 20
+abbrev pub error_number : JsVmError → ℕ
+error_number execution_limit_exceeded = 12
+error_number (unknown_opcode b) = 13
+error_number ip_out_of_bounds = 14
+error_number stack_underflow = 15
+error_number stack_overflow = 16
+error_number (uncaught_exception v) = 17
+error_number not_callable = 18
+error_number invalid_function_id = 19
+error_number no_call_frame = 20

@@ -16,12 +16,12 @@ nan = 2 ^ 63 - 1
 abbrev pub wrap : ℕ → ℕ
 wrap n = n % 2 ^ 64
 
-abbrev pub isNegative : ℕ → Bool
-isNegative a = leb (2 ^ 63) a
+abbrev pub is_negative : ℕ → Bool
+is_negative a = leb (2 ^ 63) a
 
 -- The absolute value; the most negative number has 2^63.
 abbrev pub magnitude : ℕ → ℕ
-magnitude a = if isNegative a then 2 ^ 64 - a else a
+magnitude a = if is_negative a then 2 ^ 64 - a else a
 
 -- The number with a sign and a magnitude, reduced to 64 bits.
 abbrev pub signed : Bool → ℕ → ℕ
@@ -45,26 +45,26 @@ neg a = sub 0 a
 abbrev pub mul : ℕ → ℕ → ℕ
 mul a b =
     if eqb a nan || eqb b nan then nan else
-    if differ (isNegative a) (isNegative b) then signed true ((magnitude a * magnitude b + (2 ^ 32 - 1)) / 2 ^ 32)
+    if differ (is_negative a) (is_negative b) then signed true ((magnitude a * magnitude b + (2 ^ 32 - 1)) / 2 ^ 32)
     else signed false (magnitude a * magnitude b / 2 ^ 32)
 
 -- `js_div`: a × 2^32 / b, cut toward zero
 abbrev pub div : ℕ → ℕ → ℕ
 div a b =
     if eqb b 0 || eqb a nan || eqb b nan then nan
-    else signed (differ (isNegative a) (isNegative b)) (magnitude a * 2 ^ 32 / magnitude b)
+    else signed (differ (is_negative a) (is_negative b)) (magnitude a * 2 ^ 32 / magnitude b)
 
 -- `Mod`: the signed remainder; NaN counts as its integer, and a zero divisor gives NaN.
 abbrev pub rem : ℕ → ℕ → ℕ
-rem a b = if eqb b 0 then nan else signed (isNegative a) (magnitude a % magnitude b)
+rem a b = if eqb b 0 then nan else signed (is_negative a) (magnitude a % magnitude b)
 
 -- floor (a / 2^32), as its 32 bits
 abbrev pub floor : ℕ → ℕ
 floor a = a / 2 ^ 32
 
 -- floor (a / 2^32), as its 64 bits
-abbrev pub floorWide : ℕ → ℕ
-floorWide a = if isNegative a then a / 2 ^ 32 + (2 ^ 64 - 2 ^ 32) else a / 2 ^ 32
+abbrev pub floor_wide : ℕ → ℕ
+floor_wide a = if is_negative a then a / 2 ^ 32 + (2 ^ 64 - 2 ^ 32) else a / 2 ^ 32
 
 -- An integer as a number: its low 32 bits, above the point.
 abbrev pub whole : ℕ → ℕ
@@ -80,66 +80,66 @@ or a b = whole (bit_or (floor a) (floor b))
 abbrev pub xor : ℕ → ℕ → ℕ
 xor a b = whole (bit_xor (floor a) (floor b))
 
-abbrev pub shiftLeft : ℕ → ℕ → ℕ
-shiftLeft a b = whole (floor a * 2 ^ (floor b % 32))
+abbrev pub shift_left : ℕ → ℕ → ℕ
+shift_left a b = whole (floor a * 2 ^ (floor b % 32))
 
-abbrev pub shiftRight : ℕ → ℕ → ℕ
-shiftRight a b = whole (floorWide a / 2 ^ (floor b % 32))
+abbrev pub shift_right : ℕ → ℕ → ℕ
+shift_right a b = whole (floor_wide a / 2 ^ (floor b % 32))
 
 -- a < b and a ≤ b as signed integers
 abbrev pub less : ℕ → ℕ → Bool
 less a b = ltb (wrap (a + 2 ^ 63)) (wrap (b + 2 ^ 63))
 
-abbrev pub lessEq : ℕ → ℕ → Bool
-lessEq a b = leb (wrap (a + 2 ^ 63)) (wrap (b + 2 ^ 63))
+abbrev pub less_eq : ℕ → ℕ → Bool
+less_eq a b = leb (wrap (a + 2 ^ 63)) (wrap (b + 2 ^ 63))
 
 -- Text to number: `parse_js_number`
 
 -- Bytes 9 to 13 and 32 are cut at both ends.
-abbrev pub isBlank : ℕ → Bool
-isBlank b = (leb 9 b && leb b 13) || eqb b 32
+abbrev pub is_blank : ℕ → Bool
+is_blank b = (leb 9 b && leb b 13) || eqb b 32
 
-abbrev pub isDigit : ℕ → Bool
-isDigit b = leb 48 b && leb b 57
+abbrev pub is_digit : ℕ → Bool
+is_digit b = leb 48 b && leb b 57
 
-abbrev pub cutFront : List ℕ → List ℕ
-cutFront [] = []
-cutFront (b ∷ bs) = if isBlank b then cutFront bs else b ∷ bs
+abbrev pub cut_front : List ℕ → List ℕ
+cut_front [] = []
+cut_front (b ∷ bs) = if is_blank b then cut_front bs else b ∷ bs
 
 abbrev pub trim : List ℕ → List ℕ
-trim bs = reverse (cutFront (reverse (cutFront bs)))
+trim bs = reverse (cut_front (reverse (cut_front bs)))
 
 -- The digits' worth, wrapping, as a number with that whole part; a byte that is no digit gives NaN.
 abbrev pub digits : ℕ → Bool → List ℕ → ℕ
 digits n minus [] = if minus then neg (whole n) else whole n
-digits n minus (b ∷ bs) = if isDigit b then digits (wrap (n * 10 + (b - 48))) minus bs else nan
+digits n minus (b ∷ bs) = if is_digit b then digits (wrap (n * 10 + (b - 48))) minus bs else nan
 
--- Empty is 0; one optional `-`.
-abbrev pub signedDigits : List ℕ → ℕ
-signedDigits [] = 0
-signedDigits (b ∷ bs) = if eqb b 45 then digits 0 true bs else digits 0 false (b ∷ bs)
+-- Empty is 0; one optional `_`.
+abbrev pub signed_digits : List ℕ → ℕ
+signed_digits [] = 0
+signed_digits (b ∷ bs) = if eqb b 45 then digits 0 true bs else digits 0 false (b ∷ bs)
 
-abbrev pub parseJsNumber : List ℕ → ℕ
-parseJsNumber bs = signedDigits (trim bs)
+abbrev pub parse_js_number : List ℕ → ℕ
+parse_js_number bs = signed_digits (trim bs)
 
 -- Number to text: `format_js_number`, as change 4 of document 02 has it
 
 -- The decimal digits of a natural number in front of a text, no more than k of them.
-abbrev pub decimalOnto : ℕ → ℕ → List ℕ → List ℕ
-decimalOnto zero n bs = bs
-decimalOnto (suc k) n bs = if ltb n 10 then (48 + n) ∷ bs else decimalOnto k (n / 10) ((48 + n % 10) ∷ bs)
+abbrev pub decimal_onto : ℕ → ℕ → List ℕ → List ℕ
+decimal_onto zero n bs = bs
+decimal_onto (suc k) n bs = if ltb n 10 then (48 + n) ∷ bs else decimal_onto k (n / 10) ((48 + n % 10) ∷ bs)
 
 abbrev pub decimal : ℕ → List ℕ
-decimal n = decimalOnto 20 n []
+decimal n = decimal_onto 20 n []
 
 -- Exactly k digits, leading zeros written.
 abbrev pub padded : ℕ → ℕ → List ℕ → List ℕ
 padded zero n bs = bs
 padded (suc k) n bs = padded k (n / 10) ((48 + n % 10) ∷ bs)
 
-abbrev pub cutZeros : List ℕ → List ℕ
-cutZeros [] = []
-cutZeros (b ∷ bs) = if eqb b 48 then cutZeros bs else b ∷ bs
+abbrev pub cut_zeros : List ℕ → List ℕ
+cut_zeros [] = []
+cut_zeros (b ∷ bs) = if eqb b 48 then cut_zeros bs else b ∷ bs
 
 -- The fraction of a magnitude in millionths, cut: what the six digits behind the point are worth.
 abbrev pub millionths : ℕ → ℕ
@@ -147,26 +147,26 @@ millionths m = m % 2 ^ 32 * 1000000 / 2 ^ 32
 
 -- Six digits, trailing zeros removed.
 abbrev pub fraction : ℕ → List ℕ
-fraction m = reverse (cutZeros (reverse (padded 6 (millionths m) [])))
+fraction m = reverse (cut_zeros (reverse (padded 6 (millionths m) [])))
 
 -- The point goes where no digit follows it.
 abbrev pub pointed : List ℕ → List ℕ
 pointed [] = []
 pointed (d ∷ ds) = 46 ∷ d ∷ ds
 
-abbrev pub magnitudeText : ℕ → List ℕ
-magnitudeText m = decimal (m / 2 ^ 32) ++ pointed (fraction m)
+abbrev pub magnitude_text : ℕ → List ℕ
+magnitude_text m = decimal (m / 2 ^ 32) ++ pointed (fraction m)
 
 -- Whole part and digits are all zero.
-abbrev pub allZero : ℕ → Bool
-allZero m = eqb (m / 2 ^ 32) 0 && eqb (millionths m) 0
+abbrev pub all_zero : ℕ → Bool
+all_zero m = eqb (m / 2 ^ 32) 0 && eqb (millionths m) 0
 
-abbrev pub minusSign : Bool → List ℕ
-minusSign true = 45 ∷ []
-minusSign false = []
+abbrev pub minus_sign : Bool → List ℕ
+minus_sign true = 45 ∷ []
+minus_sign false = []
 
 -- `NaN`; else a minus for a negative number, but not where all is zero, and its magnitude.
-abbrev pub formatJsNumber : ℕ → List ℕ
-formatJsNumber a =
+abbrev pub format_js_number : ℕ → List ℕ
+format_js_number a =
     if eqb a nan then 78 ∷ 97 ∷ 78 ∷ [] else
-    minusSign (isNegative a && not (allZero (magnitude a))) ++ magnitudeText (magnitude a)
+    minus_sign (is_negative a && not (all_zero (magnitude a))) ++ magnitude_text (magnitude a)

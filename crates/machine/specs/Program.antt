@@ -55,9 +55,9 @@ asking a s [] o = o
 asking a s (n ∷ ns) o = let more = asking a s ns o in answered (fits s n) a s n more
 
 -- An error of 000 leaves the state as it stands there.
-abbrev pub unlessError : Option JsVmError → State → Outcome → Outcome
-unlessError (some e) s o = over (ended (failed e)) s
-unlessError none s o = o
+abbrev pub unless_error : Option JsVmError → State → Outcome → Outcome
+unless_error (some e) s o = over (ended (failed e)) s
+unless_error none s o = o
 
 abbrev pub exec : Program → State → Outcome
 exec next s = over went s
@@ -67,4 +67,4 @@ exec (make a p) s =
     let o = exec p (apply a s) in
     let made = noting (did a (brings a s)) o in
     let allowed = asking a s (needs a s) made in
-    unlessError (error a s) s allowed
+    unless_error (error a s) s allowed

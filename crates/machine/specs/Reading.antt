@@ -1,10 +1,10 @@
 -- Change 3 of document 02: a number text read in one pass. After any byte, what was read is one of these readings, and nothing else is needed to go on.
--- `parseJsNumber` of module 1 stays the meaning of a text. Assumes nothing.
+-- `parse_js_number` of module 1 stays the meaning of a text. Assumes nothing.
 use Rattle.std.specs.Prelude.{Bool, true, false, List, [], ◌∷◌, ◌++◌, ℕ, ◌+◌, ◌-◌, ◌*◌, eqb}
 use Rattle.std.specs.Prelude.{if◌then◌else◌}
 use Rattle.machine.specs.Number as N
 
--- Blanks only; whether a `-` came, and the digits' worth; the same, with a blank behind them; no number, whatever follows.
+-- Blanks only; whether a `_` came, and the digits' worth; the same, with a blank behind them; no number, whatever follows.
 pub data Reading : Type 0 where
   leading : Reading
   digits : Bool → ℕ → Reading
@@ -16,13 +16,13 @@ start = leading
 
 -- A byte where a digit may stand.
 abbrev pub digit : Bool → ℕ → ℕ → Reading
-digit minus n b = if N.isDigit b then digits minus (N.wrap (n * 10 + (b - 48))) else invalid
+digit minus n b = if N.is_digit b then digits minus (N.wrap (n * 10 + (b - 48))) else invalid
 
 -- One byte more.
 abbrev pub next : Reading → ℕ → Reading
-next leading b = if N.isBlank b then leading else if eqb b 45 then digits true 0 else digit false 0 b
-next (digits minus n) b = if N.isBlank b then trailing minus n else digit minus n b
-next (trailing minus n) b = if N.isBlank b then trailing minus n else invalid
+next leading b = if N.is_blank b then leading else if eqb b 45 then digits true 0 else digit false 0 b
+next (digits minus n) b = if N.is_blank b then trailing minus n else digit minus n b
+next (trailing minus n) b = if N.is_blank b then trailing minus n else invalid
 next invalid b = invalid
 
 -- More bytes: from a reading and these bytes alone.
@@ -31,16 +31,16 @@ resume r [] = r
 resume r (b ∷ bs) = resume (next r b) bs
 
 -- The number of a text that ends here.
-abbrev pub signedWhole : Bool → ℕ → ℕ
-signedWhole minus n = if minus then N.neg (N.whole n) else N.whole n
+abbrev pub signed_whole : Bool → ℕ → ℕ
+signed_whole minus n = if minus then N.neg (N.whole n) else N.whole n
 
 abbrev pub finish : Reading → ℕ
 finish leading = 0
-finish (digits minus n) = signedWhole minus n
-finish (trailing minus n) = signedWhole minus n
+finish (digits minus n) = signed_whole minus n
+finish (trailing minus n) = signed_whole minus n
 finish invalid = N.nan
 
--- A reading as three numbers: its stage, 1 for a `-`, the digits' worth.
+-- A reading as three numbers: its stage, 1 for a `_`, the digits' worth.
 pub record Saved : Type 0 where
   pub stage : ℕ
   pub minus : ℕ
@@ -64,12 +64,12 @@ restore p =
     if eqb p.stage 2 then trailing (eqb p.minus 1) p.worth else invalid
 
 -- A text that comes in parts: after each, nothing is kept but three numbers.
-abbrev pub onePart : Saved → List ℕ → Saved
-onePart p bs = save (resume (restore p) bs)
+abbrev pub one_part : Saved → List ℕ → Saved
+one_part p bs = save (resume (restore p) bs)
 
 abbrev pub in_parts : Saved → List (List ℕ) → Saved
 in_parts p [] = p
-in_parts p (bs ∷ rest) = in_parts (onePart p bs) rest
+in_parts p (bs ∷ rest) = in_parts (one_part p bs) rest
 
 abbrev pub joined : List (List ℕ) → List ℕ
 joined [] = []

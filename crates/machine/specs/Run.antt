@@ -2,9 +2,9 @@
 use Rattle.std.specs.Prelude.{List, [], ◌∷◌, ℕ, zero, suc, ◌+◌, ltb, get_or}
 use Rattle.std.specs.Prelude.{if◌then◌else◌}
 use Rattle.machine.specs.Value.{Value, undefined}
-use Rattle.machine.specs.Error.{JsVmError, errorNumber, executionLimitExceeded, unknownOpcode, ipOutOfBounds, stackUnderflow, stackOverflow, uncaughtException, notCallable, invalidFunctionId, noCallFrame}
+use Rattle.machine.specs.Error.{JsVmError, error_number, execution_limit_exceeded, unknown_opcode, ip_out_of_bounds, stack_underflow, stack_overflow, uncaught_exception, not_callable, invalid_function_id, no_call_frame}
 use Rattle.machine.specs.State.{State, Frame, Store, running, question}
-use Rattle.machine.specs.Act.{popFrame}
+use Rattle.machine.specs.Act.{pop_frame}
 use Rattle.machine.specs.Program.{Program, next, look, make, End, finished, failed, How, went, refused, Outcome, exec}
 use Rattle.machine.specs.Instruction.{instruction, finish, fetch}
 
@@ -14,22 +14,22 @@ use Rattle.machine.specs.Instruction.{instruction, finish, fetch}
 -- frame.
 pub data Kind : Type 0 where
   begun : ℕ → Kind
-  runOut noFrame : Kind
+  run_out no_frame : Kind
 
-abbrev pub kindIn : State → List Frame → Kind
-kindIn s [] = noFrame
-kindIn s (f ∷ fs) =
+abbrev pub kind_in : State → List Frame → Kind
+kind_in s [] = no_frame
+kind_in s (f ∷ fs) =
     if ltb f.ip (running s f).size
     then begun (get_or s.code ((running s f).at + f.ip) 0)
-    else runOut
+    else run_out
 
 abbrev pub kind_of : State → Kind
-kind_of s = kindIn s s.frames
+kind_of s = kind_in s s.frames
 
 abbrev pub body : Kind → Program
 body (begun b) = fetch instruction
-body runOut = make popFrame next
-body noFrame = look λ s. finish s.operands
+body run_out = make pop_frame next
+body no_frame = look λ s. finish s.operands
 
 pub record Step : Type 0 where
   pub before : State
@@ -56,26 +56,26 @@ pub data Result : Type 0 where
   full : Store → Result
 
 -- Document 01's number for each case, 0 where the run finished, and the value that the answer carries: the result, or the thrown value of 17.
-abbrev pub endNumber : Result → ℕ
-endNumber (ended (finished v)) = 0
-endNumber (ended (failed e)) = errorNumber e
-endNumber (full q) = question q
+abbrev pub end_number : Result → ℕ
+end_number (ended (finished v)) = 0
+end_number (ended (failed e)) = error_number e
+end_number (full q) = question q
 
-abbrev pub thrownValue : JsVmError → Value
-thrownValue executionLimitExceeded = undefined
-thrownValue (unknownOpcode b) = undefined
-thrownValue ipOutOfBounds = undefined
-thrownValue stackUnderflow = undefined
-thrownValue stackOverflow = undefined
-thrownValue (uncaughtException v) = v
-thrownValue notCallable = undefined
-thrownValue invalidFunctionId = undefined
-thrownValue noCallFrame = undefined
+abbrev pub thrown_value : JsVmError → Value
+thrown_value execution_limit_exceeded = undefined
+thrown_value (unknown_opcode b) = undefined
+thrown_value ip_out_of_bounds = undefined
+thrown_value stack_underflow = undefined
+thrown_value stack_overflow = undefined
+thrown_value (uncaught_exception v) = v
+thrown_value not_callable = undefined
+thrown_value invalid_function_id = undefined
+thrown_value no_call_frame = undefined
 
-abbrev pub endValue : Result → Value
-endValue (ended (finished v)) = v
-endValue (ended (failed e)) = thrownValue e
-endValue (full q) = undefined
+abbrev pub end_value : Result → Value
+end_value (ended (finished v)) = v
+end_value (ended (failed e)) = thrown_value e
+end_value (full q) = undefined
 
 pub record Ran : Type 0 where
   pub steps : List Step
@@ -90,24 +90,24 @@ abbrev pub stepped : Step → Ran → Ran
 stepped t r = record { steps = t ∷ r.steps; made = r.made; result = r.result; state = r.state }
 
 -- After a step, the n-th one: r is what comes of the next steps.
-abbrev pub goOn : How → ℕ → State → Ran → Ran
-goOn went n s r = r
-goOn (How.ended e) n s r = stopped n (Result.ended e) s
-goOn (refused q) n s r = stopped n (full q) s
+abbrev pub go_on : How → ℕ → State → Ran → Ran
+go_on went n s r = r
+go_on (How.ended e) n s r = stopped n (Result.ended e) s
+go_on (refused q) n s r = stopped n (full q) s
 
 -- k steps may still be made, and n have been: question 12.
 abbrev pub steps : ℕ → ℕ → State → Ran
-steps zero n s = stopped n (Result.ended (failed executionLimitExceeded)) s
+steps zero n s = stopped n (Result.ended (failed execution_limit_exceeded)) s
 steps (suc k) n s =
     let t = step s in
     let s' = after s t.outcome in
     let r = steps k (n + 1) s' in
-    stepped t (goOn t.outcome.how (n + 1) s' r)
+    stepped t (go_on t.outcome.how (n + 1) s' r)
 
 -- `max_steps`
-abbrev pub maxSteps : ℕ
-maxSteps = 100000
+abbrev pub max_steps : ℕ
+max_steps = 100000
 
 -- the same, shut: no proof counts it down
-unfoldable pub stepLimit : ℕ
-stepLimit = maxSteps
+unfoldable pub step_limit : ℕ
+step_limit = max_steps

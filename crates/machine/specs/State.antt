@@ -4,7 +4,7 @@ use Rattle.std.specs.Prelude.{Bool, false, ◌&&◌, ◌||◌, List, [], ◌∷�
 use Rattle.machine.specs.Basic.{same}
 use Rattle.std.specs.Prelude.{if◌then◌else◌}
 use Rattle.machine.specs.Ascii.{ascii}
-use Rattle.machine.specs.Value.{Text, Home, in_code, inText, Value, undefined, object}
+use Rattle.machine.specs.Value.{Text, Home, in_code, in_text, Value, undefined, object}
 use Rattle.machine.specs.Image.{Template}
 
 -- `CallFrame`: a frame runs a template of an image, its next instruction at `ip`. Its slots are `count` of the slot store from `base` on.
@@ -60,8 +60,8 @@ pub record State : Type 0 where
   pub output : List ℕ
 
 -- `NATIVE_CONSOLE_ID`
-abbrev pub consoleId : ℕ
-consoleId = 2 ^ 64 - 1
+abbrev pub console_id : ℕ
+console_id = 2 ^ 64 - 1
 
 -- What clear gives.
 abbrev pub fresh : State
@@ -75,65 +75,65 @@ fresh = record {
   functions = [];
   objects = [];
   properties = [];
-  globals = record { name = console; value = object consoleId } ∷ [];
+  globals = record { name = console; value = object console_id } ∷ [];
   text = [];
   output = [];
 }
 
 -- The stores that a space question is about, and the number of the question.
 pub data Store : Type 0 where
-  codeStore imageStore frameStore slotStore handlerStore functionStore objectStore propertyStore globalStore textStore outputStore : Store
+  code_store image_store frame_store slot_store handler_store function_store object_store property_store global_store text_store output_store : Store
 
 abbrev pub question : Store → ℕ
-question codeStore = 8
-question imageStore = 9
-question frameStore = 11
-question slotStore = 21
-question handlerStore = 22
-question functionStore = 23
-question objectStore = 24
-question propertyStore = 25
-question globalStore = 26
-question textStore = 27
-question outputStore = 28
+question code_store = 8
+question image_store = 9
+question frame_store = 11
+question slot_store = 21
+question handler_store = 22
+question function_store = 23
+question object_store = 24
+question property_store = 25
+question global_store = 26
+question text_store = 27
+question output_store = 28
 
 -- Document 01, "Stores lent to the engine"; the handlers by change 1 of document 02.
 abbrev pub limit : Store → ℕ
-limit codeStore = 32768
-limit imageStore = 16
-limit frameStore = 64
-limit slotStore = 2048
-limit handlerStore = 12
-limit functionStore = 1024
-limit objectStore = 512
-limit propertyStore = 1024
-limit globalStore = 128
-limit textStore = 32768
-limit outputStore = 8192
+limit code_store = 32768
+limit image_store = 16
+limit frame_store = 64
+limit slot_store = 2048
+limit handler_store = 12
+limit function_store = 1024
+limit object_store = 512
+limit property_store = 1024
+limit global_store = 128
+limit text_store = 32768
+limit output_store = 8192
 
 -- Operands are no added limit: question 16 is an error of 000.
-abbrev pub operandLimit : ℕ
-operandLimit = 1024
+abbrev pub operand_limit : ℕ
+operand_limit = 1024
 
 -- What a store holds.
 abbrev pub used : State → Store → ℕ
-used s codeStore = length s.code
-used s imageStore = length s.images
-used s frameStore = length s.frames
-used s slotStore = length s.slots
-used s handlerStore = length s.handlers
-used s functionStore = length s.functions
-used s objectStore = length s.objects
-used s propertyStore = length s.properties
-used s globalStore = length s.globals
-used s textStore = length s.text
-used s outputStore = length s.output
+used s code_store = length s.code
+used s image_store = length s.images
+used s frame_store = length s.frames
+used s slot_store = length s.slots
+used s handler_store = length s.handlers
+used s function_store = length s.functions
+used s object_store = length s.objects
+used s property_store = length s.properties
+used s global_store = length s.globals
+used s text_store = length s.text
+used s output_store = length s.output
 
 -- Texts
 
-abbrev pub ofHome : Home → List ℕ → List ℕ → List ℕ
-ofHome in_code c x = c
-ofHome inText c x = x
+abbrev pub of_home : Home → List ℕ → List ℕ → List ℕ
+of_home in_code c x = c
+of_home in_text c x = x
 
 -- The two stores that have texts. What reads a text takes these and not the whole state: an act that leaves both alone then leaves what is
 -- read alone too, by computation.
@@ -145,29 +145,29 @@ abbrev pub bytes : State → Bytes
 bytes s = record { code = s.code; text = s.text }
 
 abbrev pub store_of : Bytes → Home → List ℕ
-store_of m h = ofHome h m.code m.text
+store_of m h = of_home h m.code m.text
 
 abbrev pub bytes_of : Bytes → Text → List ℕ
 bytes_of m t = take t.size (drop t.at (store_of m t.store))
 
-abbrev pub consoleName : List ℕ
-consoleName = ascii "console"
+abbrev pub console_name : List ℕ
+console_name = ascii "console"
 
-abbrev pub nameBytes : Bytes → Name → List ℕ
-nameBytes m console = consoleName
-nameBytes m (kept t) = bytes_of m t
+abbrev pub name_bytes : Bytes → Name → List ℕ
+name_bytes m console = console_name
+name_bytes m (kept t) = bytes_of m t
 
 -- The handle of n bytes that are kept next.
-abbrev pub nextText : State → ℕ → Text
-nextText s n = record { store = inText; at = length s.text; size = n }
+abbrev pub next_text : State → ℕ → Text
+next_text s n = record { store = in_text; at = length s.text; size = n }
 
 -- Properties and globals: keys and names compare by their bytes.
 
-abbrev pub isPair : Bytes → ℕ → List ℕ → Property → Bool
-isPair m o k p = eqb p.owner o && same (bytes_of m p.key) k
+abbrev pub is_pair : Bytes → ℕ → List ℕ → Property → Bool
+is_pair m o k p = eqb p.owner o && same (bytes_of m p.key) k
 
-abbrev pub isNamed : Bytes → List ℕ → Global → Bool
-isNamed m n g = same (nameBytes m g.name) n
+abbrev pub is_named : Bytes → List ℕ → Global → Bool
+is_named m n g = same (name_bytes m g.name) n
 
 -- Does any element pass the test?
 abbrev pub any : {A : Type 0} → (A → Bool) → List A → Bool
@@ -180,43 +180,43 @@ first t f d [] = d
 first t f d (x ∷ xs) = if t x then f x else first t f d xs
 
 -- The list with `f` at the first element that passes the test.
-abbrev pub changeFirst : {A : Type 0} → (A → Bool) → (A → A) → List A → List A
-changeFirst t f [] = []
-changeFirst t f (x ∷ xs) = if t x then f x ∷ xs else x ∷ changeFirst t f xs
+abbrev pub change_first : {A : Type 0} → (A → Bool) → (A → A) → List A → List A
+change_first t f [] = []
+change_first t f (x ∷ xs) = if t x then f x ∷ xs else x ∷ change_first t f xs
 
-abbrev pub hasProperty : State → ℕ → List ℕ → Bool
-hasProperty s o k = any (isPair (bytes s) o k) s.properties
+abbrev pub has_property : State → ℕ → List ℕ → Bool
+has_property s o k = any (is_pair (bytes s) o k) s.properties
 
-abbrev pub propertyIn : Bytes → List Property → ℕ → List ℕ → Value
-propertyIn m ps o k = first (isPair m o k) (λ p. p.value) undefined ps
+abbrev pub property_in : Bytes → List Property → ℕ → List ℕ → Value
+property_in m ps o k = first (is_pair m o k) (λ p. p.value) undefined ps
 
 abbrev pub property : State → ℕ → List ℕ → Value
-property s o k = propertyIn (bytes s) s.properties o k
+property s o k = property_in (bytes s) s.properties o k
 
-abbrev pub hasGlobal : State → List ℕ → Bool
-hasGlobal s n = any (isNamed (bytes s) n) s.globals
+abbrev pub has_global : State → List ℕ → Bool
+has_global s n = any (is_named (bytes s) n) s.globals
 
 abbrev pub global : State → List ℕ → Value
-global s n = first (isNamed (bytes s) n) (λ g. g.value) undefined s.globals
+global s n = first (is_named (bytes s) n) (λ g. g.value) undefined s.globals
 
 -- Templates and frames. What is not there is the template without code.
 
-abbrev pub noTemplate : Template
-noTemplate = record { parameters = 0; locals = 0; constants = []; at = 0; size = 0 }
+abbrev pub no_template : Template
+no_template = record { parameters = 0; locals = 0; constants = []; at = 0; size = 0 }
 
-abbrev pub templateOf : State → ℕ → ℕ → Template
-templateOf s i t = get_or (get_or s.images i []) t noTemplate
+abbrev pub template_of : State → ℕ → ℕ → Template
+template_of s i t = get_or (get_or s.images i []) t no_template
 
 abbrev pub running : State → Frame → Template
-running s f = templateOf s f.image f.template
+running s f = template_of s f.image f.template
 
-abbrev pub setIp : ℕ → Frame → Frame
-setIp p f = record { image = f.image; template = f.template; ip = p; base = f.base; count = f.count }
+abbrev pub set_ip : ℕ → Frame → Frame
+set_ip p f = record { image = f.image; template = f.template; ip = p; base = f.base; count = f.count }
 
 -- The frames with the top one at a place.
-abbrev pub topAt : ℕ → List Frame → List Frame
-topAt p [] = []
-topAt p (f ∷ fs) = setIp p f ∷ fs
+abbrev pub top_at : ℕ → List Frame → List Frame
+top_at p [] = []
+top_at p (f ∷ fs) = set_ip p f ∷ fs
 
 -- The place after the slots of the top frame: 0 with no frame.
 abbrev pub end_of : List Frame → ℕ

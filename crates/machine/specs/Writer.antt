@@ -36,37 +36,37 @@ underway opened = true
 underway coded = true
 underway finished = false
 
-abbrev pub isOpen : Stage → Bool
-isOpen unbegun = false
-isOpen begun = false
-isOpen opened = true
-isOpen coded = false
-isOpen finished = false
+abbrev pub is_open : Stage → Bool
+is_open unbegun = false
+is_open begun = false
+is_open opened = true
+is_open coded = false
+is_open finished = false
 
-abbrev pub inOrder : Call → Stage → Bool
-inOrder begin g = true
-inOrder (template p l) g = underway g
-inOrder (constant c) g = isOpen g
-inOrder (code bs) g = isOpen g
-inOrder finish g = underway g
+abbrev pub in_order : Call → Stage → Bool
+in_order begin g = true
+in_order (template p l) g = underway g
+in_order (constant c) g = is_open g
+in_order (code bs) g = is_open g
+in_order finish g = underway g
 
 abbrev pub small : ℕ → Bool
 small n = leb n 65535
 
-abbrev pub smallConstant : Constant → Bool
-smallConstant (Constant.number n) = true
-smallConstant (Constant.text bs) = small (length bs)
-smallConstant (Constant.boolean b) = true
-smallConstant Constant.null = true
-smallConstant Constant.undefined = true
-smallConstant (Constant.function t) = small t
+abbrev pub small_constant : Constant → Bool
+small_constant (Constant.number n) = true
+small_constant (Constant.text bs) = small (length bs)
+small_constant (Constant.boolean b) = true
+small_constant Constant.null = true
+small_constant Constant.undefined = true
+small_constant (Constant.function t) = small t
 
-abbrev pub countsFit : Call → Writer → Bool
-countsFit begin w = true
-countsFit (template p l) w = small (w.templates + 1) && small p && small l
-countsFit (constant c) w = small (w.constants + 1) && smallConstant c
-countsFit (code bs) w = small (length bs)
-countsFit finish w = true
+abbrev pub counts_fit : Call → Writer → Bool
+counts_fit begin w = true
+counts_fit (template p l) w = small (w.templates + 1) && small p && small l
+counts_fit (constant c) w = small (w.constants + 1) && small_constant c
+counts_fit (code bs) w = small (length bs)
+counts_fit finish w = true
 
 -- What an accepted call leaves of the writer.
 abbrev pub after : Call → Writer → Writer
@@ -92,7 +92,7 @@ room_for finish w n = true
 
 -- 34 is asked before 31.
 abbrev pub question : Call → Writer → ℕ → Option ℕ
-question c w n = ask 34 (inOrder c w.stage && countsFit c w) (ask 31 (room_for c w n) none)
+question c w n = ask 34 (in_order c w.stage && counts_fit c w) (ask 31 (room_for c w n) none)
 
 -- xs with bs from place `at` on
 abbrev pub overwrite : List ℕ → ℕ → List ℕ → List ℕ
@@ -124,17 +124,17 @@ abbrev pub perform : Call → Session → Session
 perform c d = performed (asked c d) c d
 
 -- Over a writer that no call left so, a call's answer is open; it then is 34 where the open template's eight bytes are not among those written. After every
--- call they are (proofs/Writer, `always-in-place`).
-abbrev pub inPlace : Call → Writer → Bool
-inPlace begin w = true
-inPlace (template p l) w = true
-inPlace (constant c) w = leb (w.at + 8) w.size
-inPlace (code bs) w = leb (w.at + 8) w.size
-inPlace finish w = true
+-- call they are (proofs/Writer, `always_in_place`).
+abbrev pub in_place : Call → Writer → Bool
+in_place begin w = true
+in_place (template p l) w = true
+in_place (constant c) w = leb (w.at + 8) w.size
+in_place (code bs) w = leb (w.at + 8) w.size
+in_place finish w = true
 
-abbrev pub askedOn : Bool → Call → Session → Option ℕ
-askedOn true c d = asked c d
-askedOn false c d = some 34
+abbrev pub asked_on : Bool → Call → Session → Option ℕ
+asked_on true c d = asked c d
+asked_on false c d = some 34
 
 abbrev pub leaves : Session → List Call → Session
 leaves d [] = d
@@ -142,16 +142,16 @@ leaves d (c ∷ cs) = leaves (perform c d) cs
 
 -- The templates that calls add: what the accepted calls since the last begin say.
 
-abbrev pub atLast : {A : Type 0} → (A → A) → List A → List A
-atLast f [] = []
-atLast f (x ∷ []) = f x ∷ []
-atLast f (x ∷ y ∷ ys) = x ∷ atLast f (y ∷ ys)
+abbrev pub at_last : {A : Type 0} → (A → A) → List A → List A
+at_last f [] = []
+at_last f (x ∷ []) = f x ∷ []
+at_last f (x ∷ y ∷ ys) = x ∷ at_last f (y ∷ ys)
 
 abbrev pub bare : ℕ → ℕ → Template
 bare p l = record { parameters = p; locals = l; constants = []; code = [] }
 
-abbrev pub withConstant : Constant → Template → Template
-withConstant c t = record { parameters = t.parameters; locals = t.locals; constants = t.constants ++ c ∷ []; code = t.code }
+abbrev pub with_constant : Constant → Template → Template
+with_constant c t = record { parameters = t.parameters; locals = t.locals; constants = t.constants ++ c ∷ []; code = t.code }
 
 abbrev pub with_code : List ℕ → Template → Template
 with_code bs t = record { parameters = t.parameters; locals = t.locals; constants = t.constants; code = bs }
@@ -159,8 +159,8 @@ with_code bs t = record { parameters = t.parameters; locals = t.locals; constant
 abbrev pub grow : Call → List Template → List Template
 grow begin ts = []
 grow (template p l) ts = ts ++ bare p l ∷ []
-grow (constant c) ts = atLast (withConstant c) ts
-grow (code bs) ts = atLast (with_code bs) ts
+grow (constant c) ts = at_last (with_constant c) ts
+grow (code bs) ts = at_last (with_code bs) ts
 grow finish ts = ts
 
 abbrev pub grown : Option ℕ → Call → List Template → List Template

@@ -1,13 +1,13 @@
-//! Text to number in one pass: blanks, an optional `-`, decimal digits, blanks. A text that comes in parts is read part by part, and no byte of it is kept.
+//! Text to number in one pass: blanks, an optional `_`, decimal digits, blanks. A text that comes in parts is read part by part, and no byte of it is kept.
 ghost use Rattle.std.specs.Prelude.{◌≡◌, ◌+◌, ◌*◌, ◌≤◌, length, drop};
 ghost use Rattle.machine.specs.Number as N;
 ghost use Rattle.machine.specs.Reading as R;
-ghost use Rattle.number.specs.Parse.{reading_of, savedOf};
+ghost use Rattle.number.specs.Parse.{reading_of, saved_of};
 
 use crate::{JsNumber, wide};
 
 pub fn is_blank(b: u8) -> bool
-    ensures { result ≡ N.isBlank b }
+    ensures { result ≡ N.is_blank b }
 {
     if b == b' ' {
         return true;
@@ -19,7 +19,7 @@ pub fn is_blank(b: u8) -> bool
 }
 
 pub fn is_digit(b: u8) -> bool
-    ensures { result ≡ N.isDigit b }
+    ensures { result ≡ N.is_digit b }
 {
     if b < b'0' {
         return false;
@@ -44,7 +44,7 @@ fn widened(b: u8) -> u64
 // The place behind the blanks that stand from place i on.
 pub(crate) fn after_blanks(s: &[u8], i: usize) -> usize
     requires { i ≤ length s.now }
-    ensures { (result ≤ length s.now) × (N.cutFront (drop i s.now) ≡ drop result s.now) }
+    ensures { (result ≤ length s.now) × (N.cut_front (drop i s.now) ≡ drop result s.now) }
 {
     let mut k = i;
     while k < s.len() {
@@ -63,7 +63,7 @@ pub(crate) fn after_blanks(s: &[u8], i: usize) -> usize
 pub enum Reading {
     /// Blanks only.
     Leading,
-    /// Whether a `-` came, and the worth of the digits behind it.
+    /// Whether a `_` came, and the worth of the digits behind it.
     Digits(bool, u64),
     /// The same, with a blank behind them.
     Trailing(bool, u64),
@@ -71,7 +71,7 @@ pub enum Reading {
     Invalid,
 }
 
-/// A reading as three numbers, for a host that keeps it in its own form: 0 to 3 for the variant, 1 for a `-`, the worth of the digits.
+/// A reading as three numbers, for a host that keeps it in its own form: 0 to 3 for the variant, 1 for a `_`, the worth of the digits.
 #[derive(Clone, Copy)]
 pub struct Saved {
     pub stage: u64,
@@ -126,7 +126,7 @@ pub(crate) fn leading(s: &[u8]) -> Reading
 }
 
 fn signed_whole(minus: bool, n: u64) -> JsNumber
-    ensures { result.bits ≡ R.signedWhole minus n }
+    ensures { result.bits ≡ R.signed_whole minus n }
 {
     let number = JsNumber {
         bits: wide::whole(n),
@@ -172,7 +172,7 @@ impl Reading {
     }
 
     pub fn save(self) -> Saved
-        ensures { savedOf result ≡ R.save (reading_of self) }
+        ensures { saved_of result ≡ R.save (reading_of self) }
     {
         match self {
             Reading::Leading => Saved {
@@ -200,7 +200,7 @@ impl Reading {
 
     /// The reading that three numbers stand for. A stage above 2 is taken for 3, and another `minus` than 1 for 0.
     pub fn restore(saved: Saved) -> Reading
-        ensures { reading_of result ≡ R.restore (savedOf saved) }
+        ensures { reading_of result ≡ R.restore (saved_of saved) }
     {
         let minus = saved.minus == 1;
         if saved.stage == 0 {
@@ -219,7 +219,7 @@ impl Reading {
 impl JsNumber {
     /// The number that a text reads as; a part of a text is lent as `&s[a..b]`.
     pub fn parse_js_number(s: &[u8]) -> JsNumber
-        ensures { result.bits ≡ N.parseJsNumber s.now }
+        ensures { result.bits ≡ N.parse_js_number s.now }
     {
         Reading::start().resume(s).finish()
     }

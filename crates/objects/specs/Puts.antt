@@ -9,148 +9,148 @@ use Rattle.machine.specs.State as St
 use Rattle.machine.specs.Act as A
 use Rattle.machine.specs.Fields as Fi
 use Rattle.machine.specs.Program.{fits}
-use Rattle.machine.specs.Out.{out, out-make, out-refused, Asked}
+use Rattle.machine.specs.Out.{out, out_make, out_refused, Asked}
 use Rattle.value.specs.Arena.{Apart}
 use Rattle.value.specs.Errors.{space_of}
-use Rattle.value.specs.Lists.{bytes_of, row-length}
-use Rattle.value.specs.Words.{value_of, setValue, value-apart, length-setValue}
+use Rattle.value.specs.Lists.{bytes_of, row_length}
+use Rattle.value.specs.Words.{value_of, set_value, value_apart, length_set_value}
 use Rattle.value.specs.declared.Value.{Value}
 use Rattle.value.specs.declared.Space.{Space}
 use Rattle.value.specs.declared.Space.TheVariants.{Properties, Text}
-use Rattle.texts.specs.Keeps.{textLimit}
-use Rattle.texts.specs.Overwrite.{overwrite, overwrite-bytes}
-use Rattle.heap.specs.Layout.{propertyLimit, propertiesAt, globalsAt}
-use Rattle.heap.specs.View.{Sized, row_at, set_row, propertyOf, propertiesOf, onHeap}
-use Rattle.heap.specs.Rows.{Finds, found-any, found-no}
-use Rattle.heap.specs.Tables.{table-changed, table_more, setRow-apart, length-setRow}
-use Rattle.heap.specs.Laws.{in-properties, apart-wider, withProperties}
+use Rattle.texts.specs.Keeps.{text_limit}
+use Rattle.texts.specs.Overwrite.{overwrite, overwrite_bytes}
+use Rattle.heap.specs.Layout.{property_limit, properties_at, globals_at}
+use Rattle.heap.specs.View.{Sized, row_at, set_row, property_of, properties_of, on_heap}
+use Rattle.heap.specs.Rows.{Finds, found_any, found_no}
+use Rattle.heap.specs.Tables.{table_changed, table_more, set_row_apart, length_set_row}
+use Rattle.heap.specs.Laws.{in_properties, apart_wider, with_properties}
 use Rattle.heap.specs.Finds.{stores, pair_at, name_at}
 use Rattle.heap.specs.declared.Sizes.{Sizes}
 use Rattle.heap.specs.declared.Found.{Found}
 use Rattle.heap.specs.declared.Found.TheVariants.{At, Nothing}
 use Rattle.objects.specs.declared.Placed.TheVariants.{Went, Refused}
-use Rattle.objects.specs.View.{onStores, Puts, Lays}
+use Rattle.objects.specs.View.{on_stores, Puts, Lays}
 
 -- THE LAW OF ASKING: an act that asks for x rows of a store and then for some bytes of text.
 module _ (a : A.Act) (z : Sizes) (w : List ℕ) (m : ℕ) (t : List ℕ) (q : Space) (rows x size : ℕ)
-    (calm : (s : St.State) → A.error a (onStores z w m t s) ≡ none)
-    (asks : (s : St.State) → A.needs a (onStores z w m t s) ≡ A.need (space_of q) x ∷ A.need St.textStore size ∷ [])
-    (holds : (s : St.State) → St.used (onStores z w m t s) (space_of q) ≡ rows) where
-  used-text : (s : St.State) → St.used (onStores z w m t s) St.textStore ≡ m
-  used-text s = row-length m (λ i. lib.ListN.get_or t i 0)
+    (calm : (s : St.State) → A.error a (on_stores z w m t s) ≡ none)
+    (asks : (s : St.State) → A.needs a (on_stores z w m t s) ≡ A.need (space_of q) x ∷ A.need St.text_store size ∷ [])
+    (holds : (s : St.State) → St.used (on_stores z w m t s) (space_of q) ≡ rows) where
+  used_text : (s : St.State) → St.used (on_stores z w m t s) St.text_store ≡ m
+  used_text s = row_length m (λ i. lib.ListN.get_or t i 0)
 
   abbrev row : A.Need
   row = A.need (space_of q) x
 
   abbrev bytes : A.Need
-  bytes = A.need St.textStore size
+  bytes = A.need St.text_store size
 
   module _ (s : St.State) where
-    row_fits : rows + x ≤ St.limit (space_of q) → fits (onStores z w m t s) row ≡ true
+    row_fits : rows + x ≤ St.limit (space_of q) → fits (on_stores z w m t s) row ≡ true
     row_fits h = rw (holds s) (le-leb (rows + x) (St.limit (space_of q)) h)
 
-    asked-as : (o : Option St.Store) → Asked (onStores z w m t s) (row ∷ bytes ∷ []) o → Asked (onStores z w m t s) (A.needs a (onStores z w m t s)) o
-    asked-as o k = rw (asks s) k
+    asked_as : (o : Option St.Store) → Asked (on_stores z w m t s) (row ∷ bytes ∷ []) o → Asked (on_stores z w m t s) (A.needs a (on_stores z w m t s)) o
+    asked_as o k = rw (asks s) k
 
-  pub asked-went : (y : Sizes) (e : ℕ) (w' t' : List ℕ) → rows + x ≤ St.limit (space_of q) → m + size ≤ textLimit → Sized y w' → e ≤ textLimit
-      → ((s : St.State) → onStores y w' e t' s ≡ A.apply a (onStores z w m t s)) → Puts a z w m t (Went y e) w' t'
-  asked-went y e w' t' h l good i f = record {
-    goes = λ s p. out-make (onStores z w m t s) a p (calm s)
-        (asked-as s none (Asked.yes (row_fits s h) (Asked.yes (rw (used-text s) (le-leb (m + size) textLimit l)) Asked.all)))
+  pub asked_went : (y : Sizes) (e : ℕ) (w' t' : List ℕ) → rows + x ≤ St.limit (space_of q) → m + size ≤ text_limit → Sized y w' → e ≤ text_limit
+      → ((s : St.State) → on_stores y w' e t' s ≡ A.apply a (on_stores z w m t s)) → Puts a z w m t (Went y e) w' t'
+  asked_went y e w' t' h l good i f = record {
+    goes = λ s p. out_make (on_stores z w m t s) a p (calm s)
+        (asked_as s none (Asked.yes (row_fits s h) (Asked.yes (rw (used_text s) (le-leb (m + size) text_limit l)) Asked.all)))
         ∙ sym (ap (out p) (f s));
     ready = (good, i);
   }
 
-  pub asked-full : (w' t' : List ℕ) → w' ≡ w → t' ≡ t → St.limit (space_of q) < rows + x → Puts a z w m t (Refused q) w' t'
-  asked-full w' t' d e h = record {
-    goes = λ s p. out-refused (onStores z w m t s) a p (space_of q) (calm s) (asked-as s (some (space_of q)) (Asked.no (rw (holds s) (lt-leb (rows + x) (St.limit (space_of q)) h))));
+  pub asked_full : (w' t' : List ℕ) → w' ≡ w → t' ≡ t → St.limit (space_of q) < rows + x → Puts a z w m t (Refused q) w' t'
+  asked_full w' t' d e h = record {
+    goes = λ s p. out_refused (on_stores z w m t s) a p (space_of q) (calm s) (asked_as s (some (space_of q)) (Asked.no (rw (holds s) (lt-leb (rows + x) (St.limit (space_of q)) h))));
     ready = (d, e);
   }
 
-  pub asked-long : (w' t' : List ℕ) → w' ≡ w → t' ≡ t → rows + x ≤ St.limit (space_of q) → textLimit < m + size → Puts a z w m t (Refused Text) w' t'
-  asked-long w' t' d e h l = record {
-    goes = λ s p. out-refused (onStores z w m t s) a p St.textStore (calm s)
-        (asked-as s (some St.textStore) (Asked.yes (row_fits s h) (Asked.no (rw (used-text s) (lt-leb (m + size) textLimit l)))));
+  pub asked_long : (w' t' : List ℕ) → w' ≡ w → t' ≡ t → rows + x ≤ St.limit (space_of q) → text_limit < m + size → Puts a z w m t (Refused Text) w' t'
+  asked_long w' t' d e h l = record {
+    goes = λ s p. out_refused (on_stores z w m t s) a p St.text_store (calm s)
+        (asked_as s (some St.text_store) (Asked.yes (row_fits s h) (Asked.no (rw (used_text s) (lt-leb (m + size) text_limit l)))));
     ready = (d, e);
   }
 
 -- Properties
 
-module _ (z : Sizes) (w : List ℕ) (m : ℕ) (t : List ℕ) (good : Sized z w) (h : m ≤ textLimit) (long : length t ≡ textLimit) (o : ℕ) (k : List ℕ) where
+module _ (z : Sizes) (w : List ℕ) (m : ℕ) (t : List ℕ) (good : Sized z w) (h : m ≤ text_limit) (long : length t ≡ text_limit) (o : ℕ) (k : List ℕ) where
   abbrev n : ℕ
   n = z.properties
 
   -- a property more, without a question
-  pub property-laid : (v : Value) (e : ℕ) (w' t' : List ℕ) → n < propertyLimit → m + length k ≤ textLimit → Lays w (propertiesAt + 6 * n) o k v m t e w' t'
-      → (s : St.State) → onStores (withProperties (n + 1) z) w' e t' s ≡ A.addProperty o k (value_of v) (onStores z w m t s)
-  property-laid v e w' t' l f lay s =
-      let x = set_row w (propertiesAt + 6 * n) o m (length k) v in
-      let a = apart-wider propertiesAt globalsAt (setRow-apart w (propertiesAt + 6 * n) o m (length k) v) (omega arith) (omega arith) in
-      let p : List St.Property = propertiesOf w n ++ record { owner = o; key = record { store = M.inText; at = m; size = length k }; value = value_of v } ∷ [] in
-      let more : propertiesOf x (n + 1) ≡ p = table_more propertyOf propertiesAt w n o m (length k) v (omega (arith, good.size)) in
-      let texts : bytes_of t' e ≡ bytes_of t m ++ k = rw (lay.text, lay.count) (overwrite-bytes t m k (omega arith)) in
-      let heap : onHeap (withProperties (n + 1) z) w' s ≡ Fi.setProperties p (onHeap z w s) =
-      ap (λ (u : List ℕ). onHeap (withProperties (n + 1) z) u s) lay.row ∙ in-properties z w x good s (n + 1) a ∙ ap (λ (u : List St.Property). Fi.setProperties u (onHeap z w s)) more in
-      ap (λ (u : St.State). Fi.setText (bytes_of t' e) u) heap
-      ∙ ap (λ (u : List ℕ). Fi.setText u (Fi.setProperties p (onHeap z w s))) texts
-      ∙ ap (λ (u : ℕ). Fi.setText (bytes_of t m ++ k) (Fi.setProperties (propertiesOf w n ++ record { owner = o; key = record { store = M.inText; at = u; size = length k }; value = value_of v } ∷ []) (onHeap z w s)))
-      (sym (row-length m (λ i. lib.ListN.get_or t i 0)))
+  pub property_laid : (v : Value) (e : ℕ) (w' t' : List ℕ) → n < property_limit → m + length k ≤ text_limit → Lays w (properties_at + 6 * n) o k v m t e w' t'
+      → (s : St.State) → on_stores (with_properties (n + 1) z) w' e t' s ≡ A.add_property o k (value_of v) (on_stores z w m t s)
+  property_laid v e w' t' l f lay s =
+      let x = set_row w (properties_at + 6 * n) o m (length k) v in
+      let a = apart_wider properties_at globals_at (set_row_apart w (properties_at + 6 * n) o m (length k) v) (omega arith) (omega arith) in
+      let p : List St.Property = properties_of w n ++ record { owner = o; key = record { store = M.in_text; at = m; size = length k }; value = value_of v } ∷ [] in
+      let more : properties_of x (n + 1) ≡ p = table_more property_of properties_at w n o m (length k) v (omega (arith, good.size)) in
+      let texts : bytes_of t' e ≡ bytes_of t m ++ k = rw (lay.text, lay.count) (overwrite_bytes t m k (omega arith)) in
+      let heap : on_heap (with_properties (n + 1) z) w' s ≡ Fi.set_properties p (on_heap z w s) =
+      ap (λ (u : List ℕ). on_heap (with_properties (n + 1) z) u s) lay.row ∙ in_properties z w x good s (n + 1) a ∙ ap (λ (u : List St.Property). Fi.set_properties u (on_heap z w s)) more in
+      ap (λ (u : St.State). Fi.set_text (bytes_of t' e) u) heap
+      ∙ ap (λ (u : List ℕ). Fi.set_text u (Fi.set_properties p (on_heap z w s))) texts
+      ∙ ap (λ (u : ℕ). Fi.set_text (bytes_of t m ++ k) (Fi.set_properties (properties_of w n ++ record { owner = o; key = record { store = M.in_text; at = u; size = length k }; value = value_of v } ∷ []) (on_heap z w s)))
+      (sym (row_length m (λ i. lib.ListN.get_or t i 0)))
 
-  pub property-sized : (v : Value) (w' : List ℕ) (head place size : ℕ) → n < propertyLimit → w' ≡ set_row w (propertiesAt + 6 * n) head place size v → Sized (withProperties (n + 1) z) w'
-  property-sized v w' head place size l e = record {
+  pub property_sized : (v : Value) (w' : List ℕ) (head place size : ℕ) → n < property_limit → w' ≡ set_row w (properties_at + 6 * n) head place size v → Sized (with_properties (n + 1) z) w'
+  property_sized v w' head place size l e = record {
     functions = good.functions;
     objects = good.objects;
     properties = omega arith;
     globals = good.globals;
-    size = ap length e ∙ length-setRow w (propertiesAt + 6 * n) head place size v ∙ good.size;
+    size = ap length e ∙ length_set_row w (properties_at + 6 * n) head place size v ∙ good.size;
   }
 
   module _ (r : Found) (f : Finds (pair_at (bytes_of t m) w o k) n r) (v : Value) where
     abbrev act : A.Act
-    act = A.putProperty o k (value_of v)
+    act = A.put_property o k (value_of v)
 
-    has : (s : St.State) (i : ℕ) → r ≡ At i → St.hasProperty (onStores z w m t s) o k ≡ true
-    has s i e = found-any (St.isPair (stores s.code (bytes_of t m)) o k) n (λ i. propertyOf (row_at w (propertiesAt + 6 * i))) r f i e
+    has : (s : St.State) (i : ℕ) → r ≡ At i → St.has_property (on_stores z w m t s) o k ≡ true
+    has s i e = found_any (St.is_pair (stores s.code (bytes_of t m)) o k) n (λ i. property_of (row_at w (properties_at + 6 * i))) r f i e
 
-    has-not : (s : St.State) → r ≡ Nothing → St.hasProperty (onStores z w m t s) o k ≡ false
-    has-not s e = found-no (St.isPair (stores s.code (bytes_of t m)) o k) n (λ i. propertyOf (row_at w (propertiesAt + 6 * i))) r f e
+    has_not : (s : St.State) → r ≡ Nothing → St.has_property (on_stores z w m t s) o k ≡ false
+    has_not s e = found_no (St.is_pair (stores s.code (bytes_of t m)) o k) n (λ i. property_of (row_at w (properties_at + 6 * i))) r f e
 
-    holds : (s : St.State) → St.used (onStores z w m t s) St.propertyStore ≡ n
-    holds s = row-length n (λ i. propertyOf (row_at w (propertiesAt + 6 * i)))
+    holds : (s : St.State) → St.used (on_stores z w m t s) St.property_store ≡ n
+    holds s = row_length n (λ i. property_of (row_at w (properties_at + 6 * i)))
 
-    asks : (b : Bool) → ((s : St.State) → St.hasProperty (onStores z w m t s) o k ≡ b) → (s : St.State)
-        → A.needs act (onStores z w m t s) ≡ A.need St.propertyStore (A.unless b 1) ∷ A.need St.textStore (A.unless b (length k)) ∷ []
-    asks b q s = ap (λ (x : Bool). A.need St.propertyStore (A.unless x 1) ∷ A.need St.textStore (A.unless x (length k)) ∷ []) (q s)
+    asks : (b : Bool) → ((s : St.State) → St.has_property (on_stores z w m t s) o k ≡ b) → (s : St.State)
+        → A.needs act (on_stores z w m t s) ≡ A.need St.property_store (A.unless b 1) ∷ A.need St.text_store (A.unless b (length k)) ∷ []
+    asks b q s = ap (λ (x : Bool). A.need St.property_store (A.unless x 1) ∷ A.need St.text_store (A.unless x (length k)) ∷ []) (q s)
 
-    pub property-there : (i : ℕ) (w' : List ℕ) → r ≡ At i → w' ≡ setValue w (propertiesAt + 6 * i + 3) v → Puts act z w m t (Went z m) w' t
-    property-there i w' e q =
+    pub property_there : (i : ℕ) (w' : List ℕ) → r ≡ At i → w' ≡ set_value w (properties_at + 6 * i + 3) v → Puts act z w m t (Went z m) w' t
+    property_there i w' e q =
         let found : Finds (pair_at (bytes_of t m) w o k) n (At i) = rw e at f in
-        let x = setValue w (propertiesAt + 6 * i + 3) v in
-        let a : Apart w x propertiesAt globalsAt = apart-wider propertiesAt globalsAt (value-apart w (propertiesAt + 6 * i + 3) v) (omega arith) (omega (arith, found.told.0, good.properties)) in
-        asked-went act z w m t Properties n 0 0 (λ s. refl) (asks true (λ s. has s i e)) holds z m w' t (omega (arith, good.properties)) (omega arith)
-        (record { functions = good.functions; objects = good.objects; properties = good.properties; globals = good.globals; size = ap length q ∙ length-setValue w (propertiesAt + 6 * i + 3) v ∙ good.size })
+        let x = set_value w (properties_at + 6 * i + 3) v in
+        let a : Apart w x properties_at globals_at = apart_wider properties_at globals_at (value_apart w (properties_at + 6 * i + 3) v) (omega arith) (omega (arith, found.told.0, good.properties)) in
+        asked_went act z w m t Properties n 0 0 (λ s. refl) (asks true (λ s. has s i e)) holds z m w' t (omega (arith, good.properties)) (omega arith)
+        (record { functions = good.functions; objects = good.objects; properties = good.properties; globals = good.globals; size = ap length q ∙ length_set_value w (properties_at + 6 * i + 3) v ∙ good.size })
         h
         (λ s.
-        let changed : propertiesOf x n ≡ St.changeFirst (St.isPair (stores s.code (bytes_of t m)) o k) (A.withValue (value_of v)) (propertiesOf w n) =
-        table-changed propertyOf propertiesAt w n (St.isPair (stores s.code (bytes_of t m)) o k) (A.withValue (value_of v)) i v found (omega (arith, good.properties, good.size)) (λ r. refl) in
-        ap (λ (u : List ℕ). onStores z u m t s) q
-        ∙ ap (λ (u : St.State). Fi.setText (bytes_of t m) u) (in-properties z w x good s n a ∙ ap (λ (u : List St.Property). Fi.setProperties u (onHeap z w s)) changed)
-        ∙ sym (ap (λ (b : Bool). A.setProperty b o k (value_of v) (onStores z w m t s)) (has s i e)))
+        let changed : properties_of x n ≡ St.change_first (St.is_pair (stores s.code (bytes_of t m)) o k) (A.with_value (value_of v)) (properties_of w n) =
+        table_changed property_of properties_at w n (St.is_pair (stores s.code (bytes_of t m)) o k) (A.with_value (value_of v)) i v found (omega (arith, good.properties, good.size)) (λ r. refl) in
+        ap (λ (u : List ℕ). on_stores z u m t s) q
+        ∙ ap (λ (u : St.State). Fi.set_text (bytes_of t m) u) (in_properties z w x good s n a ∙ ap (λ (u : List St.Property). Fi.set_properties u (on_heap z w s)) changed)
+        ∙ sym (ap (λ (b : Bool). A.set_property b o k (value_of v) (on_stores z w m t s)) (has s i e)))
 
     module _ (e : r ≡ Nothing) where
-      pub property-full : propertyLimit ≤ n → Puts act z w m t (Refused Properties) w t
-      property-full l = asked-full act z w m t Properties n 1 (length k) (λ s. refl) (asks false (λ s. has-not s e)) holds w t refl refl (omega arith)
+      pub property_full : property_limit ≤ n → Puts act z w m t (Refused Properties) w t
+      property_full l = asked_full act z w m t Properties n 1 (length k) (λ s. refl) (asks false (λ s. has_not s e)) holds w t refl refl (omega arith)
 
-      pub property-long : n < propertyLimit → textLimit < m + length k → Puts act z w m t (Refused Text) w t
-      property-long l g = asked-long act z w m t Properties n 1 (length k) (λ s. refl) (asks false (λ s. has-not s e)) holds w t refl refl (omega arith) g
+      pub property_long : n < property_limit → text_limit < m + length k → Puts act z w m t (Refused Text) w t
+      property_long l g = asked_long act z w m t Properties n 1 (length k) (λ s. refl) (asks false (λ s. has_not s e)) holds w t refl refl (omega arith) g
 
-      pub property-new : (i : ℕ) (w' t' : List ℕ) → n < propertyLimit → m + length k ≤ textLimit → Lays w (propertiesAt + 6 * n) o k v m t i w' t'
-          → Puts act z w m t (Went (withProperties (n + 1) z) i) w' t'
-      property-new i w' t' l g lay =
-          asked-went act z w m t Properties n 1 (length k) (λ s. refl) (asks false (λ s. has-not s e)) holds (withProperties (n + 1) z) i w' t' (omega arith) g
-          (property-sized v w' o m (length k) l lay.row)
+      pub property_new : (i : ℕ) (w' t' : List ℕ) → n < property_limit → m + length k ≤ text_limit → Lays w (properties_at + 6 * n) o k v m t i w' t'
+          → Puts act z w m t (Went (with_properties (n + 1) z) i) w' t'
+      property_new i w' t' l g lay =
+          asked_went act z w m t Properties n 1 (length k) (λ s. refl) (asks false (λ s. has_not s e)) holds (with_properties (n + 1) z) i w' t' (omega arith) g
+          (property_sized v w' o m (length k) l lay.row)
           (omega (arith, lay.count))
-          (λ s. property-laid v i w' t' l g lay s ∙ sym (ap (λ (b : Bool). A.setProperty b o k (value_of v) (onStores z w m t s)) (has-not s e)))
+          (λ s. property_laid v i w' t' l g lay s ∙ sym (ap (λ (b : Bool). A.set_property b o k (value_of v) (on_stores z w m t s)) (has_not s e)))
 
 -- Laying a row
 pub laid : (w : List ℕ) (k head : ℕ) (key : List ℕ) (v : Value) (m : ℕ) (t : List ℕ) (size : ℕ) (w' t' : List ℕ)
@@ -159,8 +159,8 @@ laid w k head key v m t size w' t' e p q = record { count = ap (λ (x : ℕ). m 
 
 -- Searching by a source
 module _ (t w : List ℕ) (n : ℕ) (r : Found) (k k' : List ℕ) (e : k ≡ k') where
-  pub key-as : (o : ℕ) → Finds (pair_at t w o k) n r → Finds (pair_at t w o k') n r
-  key-as o f = subst (λ (x : List ℕ). Finds (pair_at t w o x) n r) e f
+  pub key_as : (o : ℕ) → Finds (pair_at t w o k) n r → Finds (pair_at t w o k') n r
+  key_as o f = subst (λ (x : List ℕ). Finds (pair_at t w o x) n r) e f
 
-  pub name-as : Finds (name_at t w k) n r → Finds (name_at t w k') n r
-  name-as f = subst (λ (x : List ℕ). Finds (name_at t w x) n r) e f
+  pub name_as : Finds (name_at t w k) n r → Finds (name_at t w k') n r
+  name_as f = subst (λ (x : List ℕ). Finds (name_at t w x) n r) e f

@@ -8,28 +8,28 @@ use Rattle.machine.specs.Out.{Out, refused, out}
 use Rattle.value.specs.Errors.{space_of}
 use Rattle.value.specs.Lists.{bytes_of}
 use Rattle.value.specs.declared.Value.{Value}
-use Rattle.texts.specs.Keeps.{textLimit}
+use Rattle.texts.specs.Keeps.{text_limit}
 use Rattle.texts.specs.Overwrite.{overwrite}
-use Rattle.heap.specs.View.{Sized, onHeap, set_row}
+use Rattle.heap.specs.View.{Sized, on_heap, set_row}
 use Rattle.heap.specs.declared.Sizes.{Sizes}
 use Rattle.objects.specs.declared.Placed.{Placed}
 use Rattle.objects.specs.declared.Placed.TheVariants.{Went, Refused}
 
 -- the state s with what the words w hold, and m bytes of t as its text
-abbrev pub onStores : Sizes → List ℕ → ℕ → List ℕ → St.State → St.State
-onStores z w m t s = Fi.setText (bytes_of t m) (onHeap z w s)
+abbrev pub on_stores : Sizes → List ℕ → ℕ → List ℕ → St.State → St.State
+on_stores z w m t s = Fi.set_text (bytes_of t m) (on_heap z w s)
 
 -- The contract of an act, as in crates/stacks: a refusal leaves words and bytes.
-abbrev pub placedThen : Placed → Program → List ℕ → List ℕ → St.State → Out
-placedThen (Went y e) p w t s = out p (onStores y w e t s)
-placedThen (Refused q) p w t s = refused (space_of q)
+abbrev pub placed_then : Placed → Program → List ℕ → List ℕ → St.State → Out
+placed_then (Went y e) p w t s = out p (on_stores y w e t s)
+placed_then (Refused q) p w t s = refused (space_of q)
 
 abbrev pub PlacedReady : Placed → List ℕ → List ℕ → List ℕ → List ℕ → Type 0
-PlacedReady (Went y e) w t w' t' = Sized y w' × (e ≤ textLimit)
+PlacedReady (Went y e) w t w' t' = Sized y w' × (e ≤ text_limit)
 PlacedReady (Refused q) w t w' t' = (w' ≡ w) × (t' ≡ t)
 
 pub record Puts (a : A.Act) (z : Sizes) (w : List ℕ) (m : ℕ) (t : List ℕ) (r : Placed) (w' t' : List ℕ) : Type 0 where
-  pub goes : (s : St.State) (p : Program) → out (make a p) (onStores z w m t s) ≡ placedThen r p w' t' s
+  pub goes : (s : St.State) (p : Program) → out (make a p) (on_stores z w m t s) ≡ placed_then r p w' t' s
   pub ready : PlacedReady r w t w' t'
 
 -- a row at place k, whose key or name is laid behind the text in use

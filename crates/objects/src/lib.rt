@@ -2,12 +2,12 @@
 #![tactic(auto)]
 
 ghost use Rattle.std.specs.Prelude.{◌≡◌, ◌+◌, ◌*◌, ◌≤◌, ◌<◌, length};
-ghost use Rattle.machine.specs.Act.{putProperty, putGlobal, plain, asBytes};
+ghost use Rattle.machine.specs.Act.{put_property, put_global, plain, as_bytes};
 ghost use Rattle.value.specs.Words.{value_of};
 ghost use Rattle.value.specs.Lists.{bytes_of};
-ghost use Rattle.texts.specs.Keeps.{textLimit};
-ghost use Rattle.texts.specs.Sources.{stores_of, sourceBytes};
-ghost use Rattle.heap.specs.Layout.{propertyLimit, globalLimit, heapWords};
+ghost use Rattle.texts.specs.Keeps.{text_limit};
+ghost use Rattle.texts.specs.Sources.{stores_of, source_bytes};
+ghost use Rattle.heap.specs.Layout.{property_limit, global_limit, heap_words};
 ghost use Rattle.heap.specs.View.{Sized};
 ghost use Rattle.heap.specs.Rows.{Finds};
 ghost use Rattle.heap.specs.Finds.{pair_at, name_at};
@@ -36,9 +36,9 @@ pub fn find_key(
     owner: u64,
     key: Source,
 ) -> Found
-    requires count_le_property_limit { (count ≤ propertyLimit) × (length heap.now ≡ heapWords) }
+    requires count_le_property_limit { (count ≤ property_limit) × (length heap.now ≡ heap_words) }
     requires n_in_bounds { (n ≤ length code.now) × (m ≤ length text.now) }
-    ensures { Finds (pair_at (bytes_of text.now m) heap.now owner (sourceBytes (stores_of code.now n text.now m) buffer.now key)) count result }
+    ensures { Finds (pair_at (bytes_of text.now m) heap.now owner (source_bytes (stores_of code.now n text.now m) buffer.now key)) count result }
 {
     match key {
         Source::Code(at, size) => {
@@ -73,9 +73,9 @@ fn find_name(
     buffer: &[u8],
     name: Source,
 ) -> Found
-    requires count_le_global_limit { (count ≤ globalLimit) × (length heap.now ≡ heapWords) }
+    requires count_le_global_limit { (count ≤ global_limit) × (length heap.now ≡ heap_words) }
     requires n_in_bounds { (n ≤ length code.now) × (m ≤ length text.now) }
-    ensures { Finds (name_at (bytes_of text.now m) heap.now (sourceBytes (stores_of code.now n text.now m) buffer.now name)) count result }
+    ensures { Finds (name_at (bytes_of text.now m) heap.now (source_bytes (stores_of code.now n text.now m) buffer.now name)) count result }
 {
     match name {
         Source::Code(at, size) => {
@@ -113,9 +113,9 @@ pub fn lay_row(
     v: Value,
 ) -> usize
     requires k_in_bounds { k + 5 < length heap.old }
-    requires n_in_bounds { (n ≤ length code.now) × (m ≤ textLimit) × (length text.old ≡ textLimit) }
-    requires key_bound { m + length (sourceBytes (stores_of code.now n text.old m) buffer.now key) ≤ textLimit }
-    ensures { Lays heap.old k head (sourceBytes (stores_of code.now n text.old m) buffer.now key) v m text.old result heap.new text.new }
+    requires n_in_bounds { (n ≤ length code.now) × (m ≤ text_limit) × (length text.old ≡ text_limit) }
+    requires key_bound { m + length (source_bytes (stores_of code.now n text.old m) buffer.now key) ≤ text_limit }
+    ensures { Lays heap.old k head (source_bytes (stores_of code.now n text.old m) buffer.now key) v m text.old result heap.new text.new }
 {
     let size = texts::size_of(n, m, buffer.len(), key);
     texts::append(code, n, text, m, buffer, key, m);
@@ -137,8 +137,8 @@ pub fn put_property(
     v: Value,
 ) -> Placed
     requires sized { Sized z heap.old }
-    requires n_in_bounds { (n ≤ length code.now) × (m ≤ textLimit) × (length text.old ≡ textLimit) }
-    ensures { Puts (putProperty owner (sourceBytes (stores_of code.now n text.old m) buffer.now key) (value_of v)) z heap.old m text.old result heap.new text.new }
+    requires n_in_bounds { (n ≤ length code.now) × (m ≤ text_limit) × (length text.old ≡ text_limit) }
+    ensures { Puts (put_property owner (source_bytes (stores_of code.now n text.old m) buffer.now key) (value_of v)) z heap.old m text.old result heap.new text.new }
 {
     let count = z.properties;
     let Found::At(i) = find_key(heap, count, code, n, text, m, buffer, owner, key) else {
@@ -171,8 +171,8 @@ pub fn put_global(
     v: Value,
 ) -> Placed
     requires sized { Sized z heap.old }
-    requires n_in_bounds { (n ≤ length code.now) × (m ≤ textLimit) × (length text.old ≡ textLimit) }
-    ensures { Puts (putGlobal (sourceBytes (stores_of code.now n text.old m) buffer.now name) (plain (value_of v))) z heap.old m text.old result heap.new text.new }
+    requires n_in_bounds { (n ≤ length code.now) × (m ≤ text_limit) × (length text.old ≡ text_limit) }
+    ensures { Puts (put_global (source_bytes (stores_of code.now n text.old m) buffer.now name) (plain (value_of v))) z heap.old m text.old result heap.new text.new }
 {
     let count = z.globals;
     let Found::At(i) = find_name(heap, count, code, n, text, m, buffer, name) else {
@@ -205,8 +205,8 @@ pub fn put_global_text(
     given: &[u8],
 ) -> Placed
     requires sized { Sized z heap.old }
-    requires n_in_bounds { (n ≤ length code.now) × (m ≤ textLimit) × (length text.old ≡ textLimit) }
-    ensures { Puts (putGlobal (sourceBytes (stores_of code.now n text.old m) buffer.now name) (asBytes given.now)) z heap.old m text.old result heap.new text.new }
+    requires n_in_bounds { (n ≤ length code.now) × (m ≤ text_limit) × (length text.old ≡ text_limit) }
+    ensures { Puts (put_global (source_bytes (stores_of code.now n text.old m) buffer.now name) (as_bytes given.now)) z heap.old m text.old result heap.new text.new }
 {
     let count = z.globals;
     let long = given.len();

@@ -4,7 +4,7 @@
 mod table;
 
 ghost use Rattle.std.specs.Prelude.{◌≡◌};
-ghost use Rattle.machine.specs.Opcodes.{rowFor};
+ghost use Rattle.machine.specs.Opcodes.{row_for};
 ghost use Rattle.opcode_table.specs.Rows.{row_by};
 
 use table::OPCODES;
@@ -19,7 +19,7 @@ pub struct Row {
 
 // The row of a byte. Any other number has that of an unknown opcode.
 pub fn opcode(b: u64) -> Row
-    ensures { row_by result ≡ rowFor b }
+    ensures { row_by result ≡ row_for b }
 {
     if b > 255 {
         return Row {

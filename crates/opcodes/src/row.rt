@@ -1,7 +1,7 @@
 //! The row of an opcode, by trying it.
 ghost use Rattle.std.specs.Prelude.{◌≡◌, not, ◌+◌, ◌-◌, ◌<◌, ◌≤◌, eqb};
 ghost use Rattle.std.specs.Prelude.{if◌then◌else◌};
-ghost use Rattle.machine.specs.Opcodes.{attemptFor, bytesFrom, operandsFrom, rowFor};
+ghost use Rattle.machine.specs.Opcodes.{attempt_for, bytes_from, operands_from, row_for};
 ghost use Rattle.opcodes.specs.Rows.{row_by};
 
 use crate::trial::attempt_of;
@@ -23,7 +23,7 @@ fn bytes_for(
     output: &mut [u8; OUTPUT_LIMIT],
 ) -> u16
     requires { op < 256 }
-    ensures { result ≡ bytesFrom (attemptFor op) }
+    ensures { result ≡ bytes_from (attempt_for op) }
 {
     let mut n: u16 = 0;
     while n < 2 {
@@ -44,7 +44,7 @@ fn operands_for(
     output: &mut [u8; OUTPUT_LIMIT],
 ) -> usize
     requires { op < 256 }
-    ensures { (result ≡ operandsFrom (attemptFor op)) × (result ≤ 3) }
+    ensures { (result ≡ operands_from (attempt_for op)) × (result ≤ 3) }
 {
     let mut m: usize = 0;
     while m < 3 {
@@ -86,7 +86,7 @@ pub fn row_of(
     output: &mut [u8; OUTPUT_LIMIT],
 ) -> Row
     requires { op < 256 }
-    ensures { row_by result ≡ rowFor op }
+    ensures { row_by result ≡ row_for op }
 {
     let whole = attempt_of(op, 0, 2, 4, heap, text, output);
     if whole.number == 13 {

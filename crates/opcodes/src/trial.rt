@@ -1,15 +1,15 @@
 //! An instruction's own code, tried: one frame with some operand bytes left, and some operands.
 ghost use Rattle.std.specs.Prelude.{◌≡◌, ◌≤◌, ◌<◌, length};
 ghost use Rattle.machine.specs.Instruction.{instruction};
-ghost use Rattle.machine.specs.Opcodes.{attemptFor};
+ghost use Rattle.machine.specs.Opcodes.{attempt_for};
 ghost use Rattle.stacks.specs.Layout.{stack_words};
 ghost use Rattle.stacks.specs.View.{Ready};
-ghost use Rattle.texts.specs.Keeps.{textLimit, outputLimit};
+ghost use Rattle.texts.specs.Keeps.{text_limit, output_limit};
 ghost use Rattle.heap.specs.View.{Sized};
 ghost use Rattle.fetch.specs.Running.{Runs};
 ghost use Rattle.heapops.specs.Turns.{Turns, mem};
 ghost use Rattle.finish.specs.Parts.{Ground, tables};
-ghost use Rattle.opcodes.specs.Trials.{Objects, Tells, attemptBy};
+ghost use Rattle.opcodes.specs.Trials.{Objects, Tells, attempt_by};
 
 use fetch::Running;
 use heap::{HEAP_WORDS, Sizes};
@@ -56,8 +56,8 @@ fn perform(
     requires runs { Runs x c.depths stacks.old }
     requires code_in_bounds { c.code ≤ length code.now }
     requires sized { Sized c.sizes heap.old }
-    requires text_le_text_limit { (c.text ≤ textLimit) × (length text.old ≡ textLimit) }
-    requires output_le_output_limit { (c.output ≤ outputLimit) × (length output.old ≡ outputLimit) }
+    requires text_le_text_limit { (c.text ≤ text_limit) × (length text.old ≡ text_limit) }
+    requires output_le_output_limit { (c.output ≤ output_limit) × (length output.old ≡ output_limit) }
     requires op_bound { op < 256 }
     ensures { Turns (Ground x c (tables code.now places.now rows.now starts.now)) (instruction op) c (mem stacks.old heap.old text.old output.old) result (mem stacks.new heap.new text.new output.new) }
 {
@@ -114,7 +114,7 @@ pub fn attempt_of(
     output: &mut [u8; OUTPUT_LIMIT],
 ) -> Attempt
     requires { (op < 256) × (n ≤ 2) × (m ≤ 4) }
-    ensures { attemptBy result ≡ attemptFor op b n m }
+    ensures { attempt_by result ≡ attempt_for op b n m }
 {
     let code: [u8; 2] = [b, b];
     let places: [u16; 1] = [0];

@@ -4,16 +4,16 @@ use Rattle.std.specs.Prelude.{Bool, true, false, ◌&&◌, ◌||◌, List, [], �
 use Rattle.machine.specs.Basic.{same}
 use Rattle.std.specs.Prelude.{if◌then◌else◌}
 use Rattle.machine.specs.Value.{Value}
-use Rattle.machine.specs.State.{State, Frame, Handler, Function, Kind, Property, Global, Bytes, bytes, fresh, bytes_of, nameBytes}
-use Rattle.machine.specs.Error.{JsVmError, errorNumber}
+use Rattle.machine.specs.State.{State, Frame, Handler, Function, Kind, Property, Global, Bytes, bytes, fresh, bytes_of, name_bytes}
+use Rattle.machine.specs.Error.{JsVmError, error_number}
 use Rattle.machine.specs.Program.{End}
-use Rattle.machine.specs.Run.{Result, endNumber}
+use Rattle.machine.specs.Run.{Result, end_number}
 use Rattle.machine.specs.Host.{Call, Answer, perform}
 
 -- The bytes of a number, the highest first, in front of a list; k of them.
-abbrev wideOnto : ℕ → ℕ → List ℕ → List ℕ
-wideOnto zero n bs = bs
-wideOnto (suc k) n bs = wideOnto k (n / 256) ((n % 256) ∷ bs)
+abbrev wide_onto : ℕ → ℕ → List ℕ → List ℕ
+wide_onto zero n bs = bs
+wide_onto (suc k) n bs = wide_onto k (n / 256) ((n % 256) ∷ bs)
 
 -- The 16 bytes of a number, the highest first, in front of a list. Each is taken from the literal itself: a chain of divisions would be slow.
 abbrev row : ℕ → List ℕ → List ℕ
@@ -45,10 +45,10 @@ abbrev pub hex : ℕ → List ℕ → List ℕ
 hex k ns = take k (rows ns)
 
 abbrev word : ℕ → List ℕ
-word n = wideOnto 2 n []
+word n = wide_onto 2 n []
 
 abbrev long : ℕ → List ℕ
-long n = wideOnto 8 n []
+long n = wide_onto 8 n []
 
 -- Bytes with their count.
 abbrev counted : List ℕ → List ℕ
@@ -98,13 +98,13 @@ entry_of m e = counted e.0 ++ value_of m e.1
 
 abbrev globals_of : Bytes → List Global → List Entry
 globals_of m [] = []
-globals_of m (g ∷ gs) = (nameBytes m g.name, g.value) ∷ globals_of m gs
+globals_of m (g ∷ gs) = (name_bytes m g.name, g.value) ∷ globals_of m gs
 
 -- The properties of one object.
-abbrev propertiesOf : Bytes → ℕ → List Property → List Entry
-propertiesOf m o [] = []
-propertiesOf m o (p ∷ ps) =
-    let more = propertiesOf m o ps in
+abbrev properties_of : Bytes → ℕ → List Property → List Entry
+properties_of m o [] = []
+properties_of m o (p ∷ ps) =
+    let more = properties_of m o ps in
     if eqb p.owner o then (bytes_of m p.key, p.value) ∷ more else more
 
 abbrev kind_of : Kind → ℕ
@@ -112,18 +112,18 @@ kind_of Kind.ordinary = 0
 kind_of Kind.array = 1
 
 -- The objects from number o on.
-abbrev objectsOf : Bytes → List Property → ℕ → List Kind → List ℕ
-objectsOf m ps o [] = []
-objectsOf m ps o (k ∷ ks) = kind_of k ∷ (listed (entry_of m) (sorted (propertiesOf m o ps)) ++ objectsOf m ps (o + 1) ks)
+abbrev objects_of : Bytes → List Property → ℕ → List Kind → List ℕ
+objects_of m ps o [] = []
+objects_of m ps o (k ∷ ks) = kind_of k ∷ (listed (entry_of m) (sorted (properties_of m o ps)) ++ objects_of m ps (o + 1) ks)
 
 abbrev frame_of : Bytes → List Value → Frame → List ℕ
 frame_of m vs f = f.image ∷ f.template ∷ (word f.ip ++ listed (value_of m) (take f.count (drop f.base vs)))
 
-abbrev handlerOf : Handler → List ℕ
-handlerOf h = word h.catch ++ word h.operands ++ word h.frames
+abbrev handler_of : Handler → List ℕ
+handler_of h = word h.catch ++ word h.operands ++ word h.frames
 
-abbrev functionOf : Function → List ℕ
-functionOf f = f.image ∷ f.template ∷ []
+abbrev function_of : Function → List ℕ
+function_of f = f.image ∷ f.template ∷ []
 
 -- Operands, frames and handlers have their newest first.
 abbrev state_of : State → List ℕ
@@ -131,29 +131,29 @@ state_of s =
     let m = bytes s in
     listed (value_of m) s.operands
     ++ listed (frame_of m s.slots) s.frames
-    ++ listed handlerOf s.handlers
-    ++ listed functionOf s.functions
-    ++ word (length s.objects) ++ objectsOf m s.properties 0 s.objects
+    ++ listed handler_of s.handlers
+    ++ listed function_of s.functions
+    ++ word (length s.objects) ++ objects_of m s.properties 0 s.objects
     ++ listed (entry_of m) (sorted (globals_of m s.globals))
     ++ counted s.output
     ++ word (length s.slots) ++ word (length s.text)
 
 -- What an error carries: 13 the byte, and 17 the thrown value.
 abbrev carried : Bytes → JsVmError → List ℕ
-carried m JsVmError.executionLimitExceeded = []
-carried m (JsVmError.unknownOpcode b) = b ∷ []
-carried m JsVmError.ipOutOfBounds = []
-carried m JsVmError.stackUnderflow = []
-carried m JsVmError.stackOverflow = []
-carried m (JsVmError.uncaughtException v) = value_of m v
-carried m JsVmError.notCallable = []
-carried m JsVmError.invalidFunctionId = []
-carried m JsVmError.noCallFrame = []
+carried m JsVmError.execution_limit_exceeded = []
+carried m (JsVmError.unknown_opcode b) = b ∷ []
+carried m JsVmError.ip_out_of_bounds = []
+carried m JsVmError.stack_underflow = []
+carried m JsVmError.stack_overflow = []
+carried m (JsVmError.uncaught_exception v) = value_of m v
+carried m JsVmError.not_callable = []
+carried m JsVmError.invalid_function_id = []
+carried m JsVmError.no_call_frame = []
 
 abbrev end_of : Bytes → Result → List ℕ
 end_of m (Result.ended (End.finished v)) = 0 ∷ value_of m v
-end_of m (Result.ended (End.failed e)) = errorNumber e ∷ carried m e
-end_of m (Result.full q) = endNumber (Result.full q) ∷ []
+end_of m (Result.ended (End.failed e)) = error_number e ∷ carried m e
+end_of m (Result.full q) = end_number (Result.full q) ∷ []
 
 -- What a call answers; after a run, what it leaves too.
 abbrev answer_of : State → Answer → List ℕ
@@ -161,7 +161,7 @@ answer_of s (Answer.refusal n) = 1 ∷ n ∷ []
 answer_of s (Answer.numbered n) = 2 ∷ word n
 answer_of s Answer.done = 3 ∷ []
 answer_of s (Answer.valued v) = 4 ∷ value_of (bytes s) v
-answer_of s (Answer.ran e n) = 5 ∷ (end_of (bytes s) e ++ wideOnto 3 n [] ++ state_of s)
+answer_of s (Answer.ran e n) = 5 ∷ (end_of (bytes s) e ++ wide_onto 3 n [] ++ state_of s)
 answer_of s (Answer.wrote bs) = 6 ∷ counted bs
 
 -- The calls of a list, each on the state that the last one left.

@@ -5,8 +5,8 @@ ghost use Rattle.std.specs.Prelude.{◌≡◌, ℕ};
 ghost use Rattle.machine.specs.Instruction.{pushed};
 ghost use Rattle.value.specs.Words.{value_of};
 ghost use Rattle.stacks.specs.View.{Ready};
-ghost use Rattle.stacks.specs.Laws.{with_operands, withIp};
-ghost use Rattle.outcome.specs.Meets.{Meets, Any, stepped, settled_of, Pairs, underflowOf};
+ghost use Rattle.stacks.specs.Laws.{with_operands, with_ip};
+ghost use Rattle.outcome.specs.Meets.{Meets, Any, stepped, settled_of, Pairs, underflow_of};
 ghost use Rattle.outcome.specs.declared.End.TheVariants.{Failed};
 ghost use Rattle.outcome.specs.declared.Part.TheVariants.{Went, Ended};
 
@@ -56,7 +56,7 @@ pub fn with_operands(d: Depths, n: usize) -> Depths
 }
 
 pub fn with_ip(d: Depths, p: usize) -> Depths
-    ensures { result ≡ withIp p d }
+    ensures { result ≡ with_ip p d }
 {
     let mut e = d;
     e.ip = p;
@@ -95,7 +95,7 @@ pub fn left_to_do(how: Part, d: Depths) -> Stepped
 
 // Error 15: whatever stood is popped.
 pub fn underflow(d: Depths) -> Stepped
-    ensures { result ≡ underflowOf d }
+    ensures { result ≡ underflow_of d }
 {
     failed(JsVmError::StackUnderflow, with_operands(d, 0))
 }

@@ -3,7 +3,7 @@ use Rattle.std.specs.Prelude.{ℕ, ◌-◌, ◌*◌, Bool, true, false, not, eqb
 use Rattle.std.proofs.Common.{ne_eqb, sym, ap, ◌∙◌}
 use Rattle.machine.specs.Value as M
 use Rattle.machine.specs.State as St
-use Rattle.machine.specs.Convert.{toBoolean}
+use Rattle.machine.specs.Convert.{to_boolean}
 use Rattle.machine.specs.Number as N
 use Rattle.machine.specs.Program.{Program, look}
 use Rattle.machine.specs.Instruction as I
@@ -11,21 +11,21 @@ use Rattle.value.specs.Words.{value_of, value_at}
 use Rattle.value.specs.declared.Value.{Value}
 use Rattle.stacks.specs.declared.Depths.{Depths}
 use Rattle.stacks.specs.declared.Popped.TheVariants.{Took}
-use Rattle.stacks.specs.Laws.{withIp, with_operands, ready-ip, pop-took}
+use Rattle.stacks.specs.Laws.{with_ip, with_operands, ready_ip, pop_took}
 use Rattle.stacks.specs.View
-use Rattle.outcome.specs.Meets.{after_look, after-pop, goes_on, jumps}
+use Rattle.outcome.specs.Meets.{after_look, after_pop, goes_on, jumps}
 use Rattle.quick.specs.declared.Quick.{Quick}
 use Rattle.quick.specs.declared.Quick.TheVariants.{Went}
 use Rattle.quick.specs.declared.control.Sense.{Sense}
 use Rattle.quick.specs.declared.control.Sense.TheVariants.{Is, Other}
-use Rattle.quick.specs.Quickly.{Quickly, carry, goes, went-as}
+use Rattle.quick.specs.Quickly.{Quickly, carry, goes, went_as}
 
 -- the newest operand's truth is t, whatever the texts are
 pub record Truthful (d : Depths) (w : List ℕ) (t : Bool) : Type 0 where
   pub value : Value
   pub some : d.operands ≡ 0 → ⊥
   pub popped : View.Pops d w (Took value (with_operands (d.operands - 1) d))
-  pub truth : (m : St.Bytes) → toBoolean m (value_of value) ≡ t
+  pub truth : (m : St.Bytes) → to_boolean m (value_of value) ≡ t
 
 abbrev pub SenseTold : Depths → List ℕ → Sense → Type 0
 SenseTold d w (Is t) = Truthful d w t
@@ -35,36 +35,36 @@ pub record Senses (d : Depths) (w : List ℕ) (r : Sense) : Type 0 where
   pub told : SenseTold d w r
 
 pub sensed : {d : Depths} {w : List ℕ} {v v' : Value} {t : Bool} → View.Ready d w → (d.operands ≡ 0 → ⊥) → value_of v ≡ value_at w (3 * (d.operands - 1)) → v ≡ v'
-    → ((m : St.Bytes) → toBoolean m (value_of v') ≡ t) → Senses d w (Is t)
-sensed {d} {w} {v' = v'} r n e g h = record { told = record { value = v'; some = n; popped = pop-took d w r v' n (ap value_of (sym g) ∙ e); truth = h } }
+    → ((m : St.Bytes) → to_boolean m (value_of v') ≡ t) → Senses d w (Is t)
+sensed {d} {w} {v' = v'} r n e g h = record { told = record { value = v'; some = n; popped = pop_took d w r v' n (ap value_of (sym g) ∙ e); truth = h } }
 
 -- a number's truth: not for zero and NaN
-pub zero-truth : (m : St.Bytes) (k : ℕ) → k ≡ 0 → toBoolean m (M.number k) ≡ false
-zero-truth m k e = rw e
+pub zero_truth : (m : St.Bytes) (k : ℕ) → k ≡ 0 → to_boolean m (M.number k) ≡ false
+zero_truth m k e = rw e
 
-pub number-truth : (m : St.Bytes) (k : ℕ) → (k ≡ 0 → ⊥) → toBoolean m (M.number k) ≡ not (eqb k N.nan)
-number-truth m k h = let e = ne_eqb k 0 h in rw e
+pub number_truth_lem : (m : St.Bytes) (k : ℕ) → (k ≡ 0 → ⊥) → to_boolean m (M.number k) ≡ not (eqb k N.nan)
+number_truth_lem m k h = let e = ne_eqb k 0 h in rw e
 
 -- a jump where f holds of the truth of the newest operand
 abbrev pub branch : (Bool → Bool) → ℕ → Program
-branch f p = I.pop λ v. look λ s. I.jumpIf (f (toBoolean (St.bytes s) v)) p
+branch f p = I.pop λ v. look λ s. I.jump_if (f (to_boolean (St.bytes s) v)) p
 
 module _ {d : Depths} {w : List ℕ} {r : Sense} {t : Bool} (n : Senses d w r) (g : r ≡ Is t) where
   truthful : Truthful d w t
   truthful = rw g at n.told
 
-  pub sense-some : d.operands ≡ 0 → ⊥
-  sense-some = truthful.some
+  pub sense_some : d.operands ≡ 0 → ⊥
+  sense_some = truthful.some
 
-  after : {H : St.State → Type 0} (f : Bool → Bool) (p : ℕ) {b : Bool} {q : Quick} {w' : List ℕ} → f t ≡ b → Quickly H (I.jumpIf b p) (with_operands (d.operands - 1) d) w q w' → Quickly H (branch f p) d w q w'
+  after : {H : St.State → Type 0} (f : Bool → Bool) (p : ℕ) {b : Bool} {q : Quick} {w' : List ℕ} → f t ≡ b → Quickly H (I.jump_if b p) (with_operands (d.operands - 1) d) w q w' → Quickly H (branch f p) d w q w'
   after f p {b} z k =
       let v = truthful in
-      carry (λ y m. after-pop (λ v. look λ s. I.jumpIf (f (toBoolean (St.bytes s) v)) p) v.popped refl
-      (after_look (λ s h. ap (λ (u : Bool). I.jumpIf (f u) p) (v.truth (St.bytes s)) ∙ ap (λ (u : Bool). I.jumpIf u p) z) m)) k
+      carry (λ y m. after_pop (λ v. look λ s. I.jump_if (f (to_boolean (St.bytes s) v)) p) v.popped refl
+      (after_look (λ s h. ap (λ (u : Bool). I.jump_if (f u) p) (v.truth (St.bytes s)) ∙ ap (λ (u : Bool). I.jump_if u p) z) m)) k
 
-  pub branch-stays : {H : St.State → Type 0} (f : Bool → Bool) (p : ℕ) {e : Depths} → f t ≡ false → e ≡ with_operands (d.operands - 1) d → Quickly H (branch f p) d w (Went e) w
-  branch-stays f p z i = went-as i (after f p z (goes (goes_on refl) truthful.popped.ready))
+  pub branch_stays : {H : St.State → Type 0} (f : Bool → Bool) (p : ℕ) {e : Depths} → f t ≡ false → e ≡ with_operands (d.operands - 1) d → Quickly H (branch f p) d w (Went e) w
+  branch_stays f p z i = went_as i (after f p z (goes (goes_on refl) truthful.popped.ready))
 
-  pub branch-goes : {H : St.State → Type 0} (f : Bool → Bool) (p : ℕ) {e a : Depths} → f t ≡ true → e ≡ with_operands (d.operands - 1) d → a ≡ withIp p e → Quickly H (branch f p) d w (Went a) w
-  branch-goes f p z k i =
-      went-as (i ∙ ap (withIp p) k) (after f p z (goes (jumps refl refl) (ready-ip p truthful.popped.ready)))
+  pub branch_goes : {H : St.State → Type 0} (f : Bool → Bool) (p : ℕ) {e a : Depths} → f t ≡ true → e ≡ with_operands (d.operands - 1) d → a ≡ with_ip p e → Quickly H (branch f p) d w (Went a) w
+  branch_goes f p z k i =
+      went_as (i ∙ ap (with_ip p) k) (after f p z (goes (jumps refl refl) (ready_ip p truthful.popped.ready)))

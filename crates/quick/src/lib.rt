@@ -13,7 +13,7 @@ ghost use Rattle.stacks.specs.Layout.{stack_words};
 ghost use Rattle.stacks.specs.View.{Ready};
 ghost use Rattle.outcome.specs.Meets.{Any};
 ghost use Rattle.readops.specs.Holds.{Constants};
-ghost use Rattle.quick.specs.Quickly.{quickOf, Quickly, QuickStep, Inside, Operand, Word};
+ghost use Rattle.quick.specs.Quickly.{quick_of, Quickly, QuickStep, Inside, Operand, Word};
 ghost use Rattle.quick.specs.Stays.{Stays, InFrame, Stands};
 
 use fetch::Running;
@@ -29,7 +29,7 @@ pub enum Quick {
 }
 
 pub fn settle(r: Made) -> Quick
-    ensures { result ≡ quickOf r }
+    ensures { result ≡ quick_of r }
 {
     match r {
         Made::Went(e) => Quick::Went(e),

@@ -10,13 +10,13 @@ use Rattle.machine.specs.Instruction as I
 use Rattle.value.specs.Words.{value_of, value_at}
 use Rattle.value.specs.declared.Value.{Value}
 use Rattle.value.specs.declared.Value.TheVariants.{Function}
-use Rattle.image.specs.View.{imagesOf}
-use Rattle.image.specs.Load.{templateFrom}
+use Rattle.image.specs.View.{images_of}
+use Rattle.image.specs.Load.{template_from}
 use Rattle.image.specs.declared.FunctionTemplate.{FunctionTemplate}
 use Rattle.stacks.specs.declared.Depths.{Depths}
 use Rattle.stacks.specs.View
-use Rattle.stacks.specs.Laws.{with_operands, withIp, ready-ip}
-use Rattle.heap.specs.View.{functionIn, functionsOf}
+use Rattle.stacks.specs.Laws.{with_operands, with_ip, ready_ip}
+use Rattle.heap.specs.View.{function_in, functions_of}
 use Rattle.heap.specs.declared.Sizes.{Sizes}
 use Rattle.heap.specs.declared.Registered.{Registered}
 use Rattle.heap.specs.declared.Registered.TheVariants.{Known}
@@ -26,32 +26,32 @@ use Rattle.fetch.specs.declared.Running.{Running}
 use Rattle.fetch.specs.declared.Fetched.TheVariants.{Got}
 use Rattle.fetch.specs.Running.{Runs, Fetches}
 use Rattle.readops.specs.Holds.{Templates, Callable, calling}
-use Rattle.readops.specs.Calls.{calls-function, call-ready}
+use Rattle.readops.specs.Calls.{calls_function, call_ready}
 use Rattle.quick.specs.declared.Quick.{Quick}
 use Rattle.quick.specs.Quickly.{Quickly, carry}
 
 module _ {rows starts : List ℕ} {images : ℕ} {d : Depths} {w w' : List ℕ} {f : Registered} {y : Stepped} (argc : ℕ) {i t : ℕ} (p : FunctionTemplate) (g : f ≡ Known i t)
-    (a : (code places : List ℕ) → templateFrom code places p ≡ slice_index_or (slice_index_or (imagesOf code places rows starts images) i []) t St.noTemplate) where
-  known : Meets Any (make (A.pushFrame i t (View.called w (d.operands + 1) argc p.param_count p.local_count)) next) d w y w'
-      → (code places : List ℕ) → Meets (Templates code places rows starts images) (calling (functionIn f) (View.arguments w (d.operands + 1) argc)) d w y w'
+    (a : (code places : List ℕ) → template_from code places p ≡ slice_index_or (slice_index_or (images_of code places rows starts images) i []) t St.no_template) where
+  known : Meets Any (make (A.push_frame i t (View.called w (d.operands + 1) argc p.param_count p.local_count)) next) d w y w'
+      → (code places : List ℕ) → Meets (Templates code places rows starts images) (calling (function_in f) (View.arguments w (d.operands + 1) argc)) d w y w'
   known m code places =
       let args = View.arguments w (d.operands + 1) argc in
-      subst (λ (u : Registered). Meets (Templates code places rows starts images) (calling (functionIn u) args) d w y w') (sym g)
+      subst (λ (u : Registered). Meets (Templates code places rows starts images) (calling (function_in u) args) d w y w') (sym g)
       (after_look
-      (λ s h. ap (λ (b : List (List Im.Template)). make (A.pushFrame i t (I.locals (slice_index_or (slice_index_or b i []) t St.noTemplate) args)) next) h.held
-      ∙ ap (λ (b : Im.Template). make (A.pushFrame i t (I.locals b args)) next) (sym (a code places)))
+      (λ s h. ap (λ (b : List (List Im.Template)). make (A.push_frame i t (I.locals (slice_index_or (slice_index_or b i []) t St.no_template) args)) next) h.held
+      ∙ ap (λ (b : Im.Template). make (A.push_frame i t (I.locals b args)) next) (sym (a code places)))
       (any m))
 
 -- the callee and the arguments are popped, after the operand
-module _ {d e c : Depths} {w : List ℕ} {argc at : ℕ} (l : argc < d.operands) (a : at ≡ d.operands - argc - 1) (f : e ≡ withIp (d.ip + 1) d) (b : c ≡ with_operands at e) where
-  pub frame-ready : View.Ready d w → View.Ready c w × (c.operands + 1 + argc ≤ St.operandLimit)
-  frame-ready r = call-ready {e = withIp (d.ip + 1) d} (ready-ip (d.ip + 1) r) l a (b ∙ ap (with_operands at) f)
+module _ {d e c : Depths} {w : List ℕ} {argc at : ℕ} (l : argc < d.operands) (a : at ≡ d.operands - argc - 1) (f : e ≡ with_ip (d.ip + 1) d) (b : c ≡ with_operands at e) where
+  pub frame_ready : View.Ready d w → View.Ready c w × (c.operands + 1 + argc ≤ St.operand_limit)
+  frame_ready r = call_ready {e = with_ip (d.ip + 1) d} (ready_ip (d.ip + 1) r) l a (b ∙ ap (with_operands at) f)
 
-  pub function-calls : {x : Running} {n : ℕ} {code places rows starts : List ℕ} {images : ℕ} {z : Sizes} {heap w' : List ℕ} {v : Value} {id i t : ℕ} {k : Registered} {q : Quick} (p : FunctionTemplate)
-      → Fetches x n code d (Got argc (withIp (d.ip + 1) d)) → Runs x d w → value_of v ≡ value_at w (3 * at) → v ≡ Function id
-      → functionIn k ≡ get_elem? (functionsOf heap z.functions) id → k ≡ Known i t
-      → ((code places : List ℕ) → templateFrom code places p ≡ slice_index_or (slice_index_or (imagesOf code places rows starts images) i []) t St.noTemplate)
-      → Quickly Any (make (A.pushFrame i t (View.called w (c.operands + 1) argc p.param_count p.local_count)) next) c w q w'
+  pub function_calls : {x : Running} {n : ℕ} {code places rows starts : List ℕ} {images : ℕ} {z : Sizes} {heap w' : List ℕ} {v : Value} {id i t : ℕ} {k : Registered} {q : Quick} (p : FunctionTemplate)
+      → Fetches x n code d (Got argc (with_ip (d.ip + 1) d)) → Runs x d w → value_of v ≡ value_at w (3 * at) → v ≡ Function id
+      → function_in k ≡ get_elem? (functions_of heap z.functions) id → k ≡ Known i t
+      → ((code places : List ℕ) → template_from code places p ≡ slice_index_or (slice_index_or (images_of code places rows starts images) i []) t St.no_template)
+      → Quickly Any (make (A.push_frame i t (View.called w (c.operands + 1) argc p.param_count p.local_count)) next) c w q w'
       → Quickly (Callable x n code places rows starts images z heap) I.Call d w q w'
-  function-calls {k = k} p fetched r t g h j o m =
-      carry (λ y s. calls-function fetched r refl l a (b ∙ ap (with_operands at) f) t k (record { is = ap value_of g }) refl h (known argc p j o s)) m
+  function_calls {k = k} p fetched r t g h j o m =
+      carry (λ y s. calls_function fetched r refl l a (b ∙ ap (with_operands at) f) t k (record { is = ap value_of g }) refl h (known argc p j o s)) m

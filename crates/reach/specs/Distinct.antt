@@ -3,11 +3,11 @@ use Rattle.std.specs.Prelude.{◌≡◌, ℕ, zero, suc, ◌+◌, ◌*◌, ◌<�
 use Rattle.std.proofs.Common.{arith, sym, ap, ◌∙◌}
 use Rattle.machine.specs.Basic.{same}
 use Rattle.machine.specs.State as St
-use Rattle.machine.proofs.Unique.{Unique, unique-pair, unique-name}
-use Rattle.value.specs.Lists.{bytes_of, row-at, row-length}
-use Rattle.heap.specs.Layout.{propertiesAt, globalsAt}
+use Rattle.machine.proofs.Unique.{Unique, unique_pair, unique_name}
+use Rattle.value.specs.Lists.{bytes_of, row_at_lem, row_length}
+use Rattle.heap.specs.Layout.{properties_at, globals_at}
 use Rattle.heap.specs.View as Heap
-use Rattle.heap.specs.View.{row_at, propertyOf, global_of}
+use Rattle.heap.specs.View.{row_at, property_of, global_of}
 use Rattle.heap.specs.Rows.{Finds, found_within}
 use Rattle.heap.specs.Finds.{pair_at, name_at, stores}
 use Rattle.heap.specs.declared.Sizes.{Sizes}
@@ -31,12 +31,12 @@ pub record Locates (t : ℕ → Bool) (n : ℕ) (r : Found) : Type 0 where
 pub located : {t : ℕ → Bool} {n : ℕ} {r : Found} → Finds t n r → Locates t n r
 located f = record { within = λ j e. found_within f e; finds = λ u. f }
 
-at-eq : {i j : ℕ} → At i ≡ At j → i ≡ j
-at-eq e = cc
+at_eq : {i j : ℕ} → At i ≡ At j → i ≡ j
+at_eq e = cc
 
 pub guessed : {t : ℕ → Bool} {n i : ℕ} → i < n → t i ≡ true → Locates t n (At i)
 guessed {t} {n} {i} l e = record {
-  within = λ j q. let z : i ≡ j = at-eq q in omega arith;
+  within = λ j q. let z : i ≡ j = at_eq q in omega arith;
   finds = λ u. record { told = (l, e, record { at = λ j k. below u j k (t j) refl }) };
 }
   where
@@ -45,30 +45,30 @@ guessed {t} {n} {i} l e = record {
     below u j k false q = q
 
 -- a name lies in no code
-name-bytes : (c t : List ℕ) (h a n : ℕ) → St.nameBytes (stores [] t) (Heap.name_of h a n) ≡ St.nameBytes (stores c t) (Heap.name_of h a n)
-name-bytes c t zero a n = refl
-name-bytes c t (suc h) a n = refl
+name_bytes_lem : (c t : List ℕ) (h a n : ℕ) → St.name_bytes (stores [] t) (Heap.name_of h a n) ≡ St.name_bytes (stores c t) (Heap.name_of h a n)
+name_bytes_lem c t zero a n = refl
+name_bytes_lem c t (suc h) a n = refl
 
 -- every state that calls leave has such stores
-pub unique-distinct : (c : Counts) (m : Mem) (s : St.State) → Unique (state_of c m s) → Distinct c.sizes m.heap c.text m.text
-unique-distinct c m s u = record {
-  pairs = λ o k i j a b p q. unique-pair (state_of c m s) u o k i j noPair (rw row-length a) (rw row-length b) (pair-in o k i a p) (pair-in o k j b q);
-  names = λ n i j a b p q. unique-name (state_of c m s) u n i j noName (rw row-length a) (rw row-length b) (name_in n i a p) (name_in n j b q);
+pub unique_distinct : (c : Counts) (m : Mem) (s : St.State) → Unique (state_of c m s) → Distinct c.sizes m.heap c.text m.text
+unique_distinct c m s u = record {
+  pairs = λ o k i j a b p q. unique_pair (state_of c m s) u o k i j no_pair (rw row_length a) (rw row_length b) (pair_in o k i a p) (pair_in o k j b q);
+  names = λ n i j a b p q. unique_name (state_of c m s) u n i j no_name (rw row_length a) (rw row_length b) (name_in n i a p) (name_in n j b q);
 }
   where
-    noPair : St.Property
-    noPair = propertyOf (row_at [] 0)
+    no_pair : St.Property
+    no_pair = property_of (row_at [] 0)
 
-    noName : St.Global
-    noName = global_of (row_at [] 0)
+    no_name : St.Global
+    no_name = global_of (row_at [] 0)
 
-    pair-in : (o : ℕ) (k : List ℕ) (i : ℕ) → i < c.sizes.properties → pair_at (bytes_of m.text c.text) m.heap o k i ≡ true
-        → St.isPair (St.bytes (state_of c m s)) o k (slice_index_or (Heap.propertiesOf m.heap c.sizes.properties) i noPair) ≡ true
-    pair-in o k i a p = ap (λ (x : St.Property). St.isPair (St.bytes (state_of c m s)) o k x) (row-at c.sizes.properties (λ j. propertyOf (row_at m.heap (propertiesAt + 6 * j))) i noPair a) ∙ p
+    pair_in : (o : ℕ) (k : List ℕ) (i : ℕ) → i < c.sizes.properties → pair_at (bytes_of m.text c.text) m.heap o k i ≡ true
+        → St.is_pair (St.bytes (state_of c m s)) o k (slice_index_or (Heap.properties_of m.heap c.sizes.properties) i no_pair) ≡ true
+    pair_in o k i a p = ap (λ (x : St.Property). St.is_pair (St.bytes (state_of c m s)) o k x) (row_at_lem c.sizes.properties (λ j. property_of (row_at m.heap (properties_at + 6 * j))) i no_pair a) ∙ p
 
     name_in : (n : List ℕ) (i : ℕ) → i < c.sizes.globals → name_at (bytes_of m.text c.text) m.heap n i ≡ true
-        → St.isNamed (St.bytes (state_of c m s)) n (slice_index_or (Heap.globals_of m.heap c.sizes.globals) i noName) ≡ true
+        → St.is_named (St.bytes (state_of c m s)) n (slice_index_or (Heap.globals_of m.heap c.sizes.globals) i no_name) ≡ true
     name_in n i a p =
-        let x = row_at m.heap (globalsAt + 6 * i) in
-        ap (λ (y : St.Global). St.isNamed (St.bytes (state_of c m s)) n y) (row-at c.sizes.globals (λ j. global_of (row_at m.heap (globalsAt + 6 * j))) i noName a)
-        ∙ ap (λ (b : List ℕ). same b n) (sym (name-bytes s.code (bytes_of m.text c.text) x.head x.place x.size)) ∙ p
+        let x = row_at m.heap (globals_at + 6 * i) in
+        ap (λ (y : St.Global). St.is_named (St.bytes (state_of c m s)) n y) (row_at_lem c.sizes.globals (λ j. global_of (row_at m.heap (globals_at + 6 * j))) i no_name a)
+        ∙ ap (λ (b : List ℕ). same b n) (sym (name_bytes_lem s.code (bytes_of m.text c.text) x.head x.place x.size)) ∙ p

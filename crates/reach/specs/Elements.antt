@@ -9,29 +9,29 @@ use Rattle.machine.specs.Value as M
 use Rattle.machine.specs.Act as A
 use Rattle.machine.specs.Number as N
 use Rattle.machine.specs.Instruction as I
-use Rattle.machine.specs.Convert.{toJsString, lengthKey, worth, digitsKey, arrayKey, lengthFloor}
-use Rattle.machine.specs.NumberText.{longestText}
-use Rattle.machine.proofs.NumberText.{decimal-last, decimal-more, text-length, whole-text}
+use Rattle.machine.specs.Convert.{to_js_string, length_key, worth, digits_key, array_key, length_floor}
+use Rattle.machine.specs.NumberText.{longest_text}
+use Rattle.machine.proofs.NumberText.{decimal_last, decimal_more, text_length, whole_text}
 use Rattle.number.specs.Format.{Formats}
-use Rattle.value.specs.Lists.{bytes_of, row_of, row-length}
-use Rattle.value.specs.Words.{value_of, value_at, decodeOf, Holds}
+use Rattle.value.specs.Lists.{bytes_of, row_of, row_length}
+use Rattle.value.specs.Words.{value_of, value_at, decode_of, Holds}
 use Rattle.value.specs.declared.Value.{Value}
 use Rattle.value.specs.declared.Value.TheVariants.{Number, Object}
 use Rattle.convert.specs.declared.Key.{Key}
 use Rattle.convert.specs.declared.Key.TheVariants.{Index, Name}
-use Rattle.texts.specs.Keeps.{textLimit}
+use Rattle.texts.specs.Keeps.{text_limit}
 use Rattle.texts.specs.Spans.{part_of, Places}
-use Rattle.texts.specs.Sources.{stores_of, sourceBytes}
+use Rattle.texts.specs.Sources.{stores_of, source_bytes}
 use Rattle.texts.specs.Spells.{Spells}
 use Rattle.texts.specs.declared.Part.{Part}
 use Rattle.texts.specs.declared.Source.TheVariants.{Buffer}
-use Rattle.stacks.specs.Laws.{with_operands, pop-took, pop-ready, push-holds}
+use Rattle.stacks.specs.Laws.{with_operands, pop_took, pop_ready, push_holds}
 use Rattle.stacks.specs.View
 use Rattle.stacks.specs.declared.Depths.{Depths}
-use Rattle.heap.specs.Layout.{propertiesAt}
-use Rattle.heap.specs.View.{Sized, objectsOf, kindIn}
+use Rattle.heap.specs.Layout.{properties_at}
+use Rattle.heap.specs.View.{Sized, objects_of, kind_in}
 use Rattle.heap.specs.Rows.{Finds}
-use Rattle.heap.specs.Finds.{pair_at, property-at, object-known}
+use Rattle.heap.specs.Finds.{pair_at, property_at, object_known}
 use Rattle.heap.specs.declared.Sizes.{Sizes}
 use Rattle.heap.specs.declared.Found.{Found}
 use Rattle.heap.specs.declared.Found.TheVariants.{At}
@@ -40,25 +40,25 @@ use Rattle.heap.specs.declared.ObjectType.TheVariants.{Ordinary, Array, NoObject
 use Rattle.objects.specs.View.{Puts}
 use Rattle.objects.specs.declared.Placed.{Placed}
 use Rattle.objects.specs.declared.Placed.TheVariants.{Went as Placed-as-Went}
-use Rattle.arrays.specs.Sets.{Sets, sets-ordinary, sets-array, array-below}
-use Rattle.outcome.specs.Meets.{Meets, Any, Pairs, settles, pair-both}
+use Rattle.arrays.specs.Sets.{Sets, sets_ordinary, sets_array, array_below}
+use Rattle.outcome.specs.Meets.{Meets, Any, Pairs, settles, pair_both}
 use Rattle.outcome.specs.declared.Pair.TheVariants.{Both as Pair-as-Both}
 use Rattle.readops.specs.Holds.{Objects}
-use Rattle.readops.specs.Lookups.{loads-index}
+use Rattle.readops.specs.Lookups.{loads_index}
 use Rattle.heapops.specs.declared.Counts.{Counts}
 use Rattle.heapops.specs.Turns.{mem, Loaded}
-use Rattle.heapops.specs.Stores.{index-stored}
+use Rattle.heapops.specs.Stores.{index_stored}
 use Rattle.quick.specs.declared.Quick.TheVariants.{Went}
-use Rattle.quick.specs.Quickly.{Quickly, carry, goes, went-as, newest}
-use Rattle.quick.specs.Stays.{Stays, stays-went, kept-within, kept-operands, below-frames}
+use Rattle.quick.specs.Quickly.{Quickly, carry, goes, went_as, newest}
+use Rattle.quick.specs.Stays.{Stays, stays_went, kept_within, kept_operands, below_frames}
 use Rattle.reach.specs.declared.elements.Access.{Access}
 use Rattle.reach.specs.declared.elements.Access.TheVariants.{To, Other}
 use Rattle.reach.specs.declared.elements.Alone.{Alone}
 use Rattle.reach.specs.declared.elements.Alone.TheVariants.{By, Other as Alone-as-Other}
 use Rattle.reach.specs.Distinct.{Distinct, Locates, guessed, located}
-use Rattle.reach.specs.Reaches.{Reaches, Sure, surely, surely-reaches}
-use Rattle.reach.specs.Names.{RowIs, row-pair}
-use Rattle.reach.specs.Values.{asValue, as-value, property-held}
+use Rattle.reach.specs.Reaches.{Reaches, Sure, surely, surely_reaches}
+use Rattle.reach.specs.Names.{RowIs, row_pair}
+use Rattle.reach.specs.Values.{as_value, as_value_lem, property_held}
 
 -- of a test that fails nothing is told
 pub untold : {A : Type 0} → false ≡ true → A
@@ -73,66 +73,66 @@ pub record Accesses (w : List ℕ) (k : ℕ) (r : Access) : Type 0 where
   pub told : AccessTold w k r
 
 pub accessed : (w : List ℕ) (k : ℕ) → slice_index w k ≡ 6 → slice_index w (k + 3) ≡ 3 → Accesses w k (To (slice_index w (k + 1)) (slice_index w (k + 4)))
-unfolding value_at decodeOf
+unfolding value_at decode_of
 accessed w k e f =
     let z : k + 4 ≡ k + 3 + 1 = omega arith in
     record { told = (rw e refl, ap (λ (i : ℕ). M.number (slice_index w i)) z ∙ rw f refl) }
 
 -- The row of a number's text, which a buffer has room for
 pub record FindsElement (t : List ℕ) (m : ℕ) (h : List ℕ) (n o v : ℕ) (r : Found) : Type 0 where
-  pub row : Locates (pair_at (bytes_of t m) h o (N.formatJsNumber v)) n r
-  pub short : length (N.formatJsNumber v) ≤ longestText
+  pub row : Locates (pair_at (bytes_of t m) h o (N.format_js_number v)) n r
+  pub short : length (N.format_js_number v) ≤ longest_text
 
 -- searched by what was written of it
-pub element-searched : {t : List ℕ} {m : ℕ} {h : List ℕ} {n o v x k : ℕ} {r : Found} {b b' : List ℕ} → x ≡ v → Formats (N.formatJsNumber x) b b' k
+pub element_searched : {t : List ℕ} {m : ℕ} {h : List ℕ} {n o v x k : ℕ} {r : Found} {b b' : List ℕ} → x ≡ v → Formats (N.format_js_number x) b b' k
     → Finds (pair_at (bytes_of t m) h o (part_of b' 0 k)) n r → FindsElement t m h n o v r
-element-searched {t} {m} {h} {n} {o} {v} {x} {k} {r} {b} {b'} e f l =
-    let key = N.formatJsNumber x in
+element_searched {t} {m} {h} {n} {o} {v} {x} {k} {r} {b} {b'} e f l =
+    let key = N.format_js_number x in
     let z : k - 0 ≡ k = omega arith in
     let y : part_of b' 0 k ≡ key = ap (λ (i : ℕ). take i b') z ∙ ap (take k) f.bytes ∙ take_at key (drop k b) k (sym f.count) in
     subst (λ (u : ℕ). FindsElement t m h n o u r) e (record { row = located (subst (λ (a : List ℕ). Finds (pair_at (bytes_of t m) h o a) n r) y l); short = omega (arith, f.count, f.most) })
 
-pub element-guessed : {t : List ℕ} {m : ℕ} {h : List ℕ} {n o v : ℕ} (i : ℕ) → v < 2 ^ 64 → i < n → RowIs t m h (propertiesAt + 6 * i) o (N.formatJsNumber v) → FindsElement t m h n o v (At i)
-element-guessed {v = v} i l k f = record { row = guessed k (row-pair i f); short = text-length v l }
+pub element_guessed : {t : List ℕ} {m : ℕ} {h : List ℕ} {n o v : ℕ} (i : ℕ) → v < 2 ^ 64 → i < n → RowIs t m h (properties_at + 6 * i) o (N.format_js_number v) → FindsElement t m h n o v (At i)
+element_guessed {v = v} i l k f = record { row = guessed k (row_pair i f); short = text_length v l }
 
 -- guessed or searched, it is this row
-pub element-at : {t : List ℕ} {m : ℕ} {h : List ℕ} {n o v i j : ℕ} {r : Found} → FindsElement t m h n o v r → r ≡ At j → i ≡ j → FindsElement t m h n o v (At i)
-element-at {t} {m} {h} {n} {o} {v} f e q = subst (λ (y : Found). FindsElement t m h n o v y) (e ∙ ap At (sym q)) f
+pub element_at : {t : List ℕ} {m : ℕ} {h : List ℕ} {n o v i j : ℕ} {r : Found} → FindsElement t m h n o v r → r ≡ At j → i ≡ j → FindsElement t m h n o v (At i)
+element_at {t} {m} {h} {n} {o} {v} f e q = subst (λ (y : Found). FindsElement t m h n o v y) (e ∙ ap At (sym q)) f
 
 abbrev filled : List ℕ → List ℕ
-filled t = t ++ row_of (longestText - length t) (λ i. 0)
+filled t = t ++ row_of (longest_text - length t) (λ i. 0)
 
-spelled : (v : ℕ) → length (N.formatJsNumber v) ≤ longestText → Spells (λ b. toJsString b (M.number v)) (Buffer (length (N.formatJsNumber v))) (filled (N.formatJsNumber v))
+spelled : (v : ℕ) → length (N.format_js_number v) ≤ longest_text → Spells (λ b. to_js_string b (M.number v)) (Buffer (length (N.format_js_number v))) (filled (N.format_js_number v))
 spelled v l =
-    let t = N.formatJsNumber v in
+    let t = N.format_js_number v in
     record {
-      bytes = λ m. take_at t (row_of (longestText - length t) (λ i. 0)) (length t) refl;
-      size = length-append t (row_of (longestText - length t) (λ i. 0)) ∙ omega (arith, row-length {A = ℕ} (longestText - length t) (λ i. 0));
+      bytes = λ m. take_at t (row_of (longest_text - length t) (λ i. 0)) (length t) refl;
+      size = length-append t (row_of (longest_text - length t) (λ i. 0)) ∙ omega (arith, row_length {A = ℕ} (longest_text - length t) (λ i. 0));
     }
 
 -- both are popped
-access-pair : {e : Depths} {w : List ℕ} {k id v : ℕ} {a : Access} → View.Ready e w → 2 ≤ e.operands → k ≡ 3 * (e.operands - 2) → Accesses w k a → a ≡ To id v
+access_pair : {e : Depths} {w : List ℕ} {k id v : ℕ} {a : Access} → View.Ready e w → 2 ≤ e.operands → k ≡ 3 * (e.operands - 2) → Accesses w k a → a ≡ To id v
     → Pairs e w (Pair-as-Both (Object id) (Number v) (with_operands (e.operands - 2) e))
-access-pair {e} {w} {k} {id} {v} good two place acc is =
+access_pair {e} {w} {k} {id} {v} good two place acc is =
     let n = e.operands in
     let t : AccessTold w k (To id v) = rw is at acc.told in
     let y : k + 3 ≡ 3 * (n - 1) = omega arith in
     let z : k ≡ 3 * (n - 1 - 1) = omega arith in
     let q : n - 1 - 1 ≡ n - 2 = omega arith in
-    let top = pop-took e w good (Number v) (λ p. omega arith) (t.1 ∙ ap (value_at w) y) in
-    let next = pop-took (with_operands (n - 1) e) w (pop-ready e w good) (Object id) (λ p. omega arith) (t.0 ∙ ap (value_at w) z) in
-    subst (λ (i : ℕ). Pairs e w (Pair-as-Both (Object id) (Number v) (with_operands i e))) q (pair-both top refl next refl)
+    let top = pop_took e w good (Number v) (λ p. omega arith) (t.1 ∙ ap (value_at w) y) in
+    let next = pop_took (with_operands (n - 1) e) w (pop_ready e w good) (Object id) (λ p. omega arith) (t.0 ∙ ap (value_at w) z) in
+    subst (λ (i : ℕ). Pairs e w (Pair-as-Both (Object id) (Number v) (with_operands i e))) q (pair_both top refl next refl)
 
-lower-ready : {n : ℕ} {d : Depths} {w : List ℕ} → n ≤ d.operands → View.Ready d w → View.Ready (with_operands n d) w
-lower-ready l r = record { operands = omega (arith, r.operands); slots = r.slots; frames = r.frames; handlers = r.handlers; size = r.size }
+lower_ready : {n : ℕ} {d : Depths} {w : List ℕ} → n ≤ d.operands → View.Ready d w → View.Ready (with_operands n d) w
+lower_ready l r = record { operands = omega (arith, r.operands); slots = r.slots; frames = r.frames; handlers = r.handlers; size = r.size }
 
 -- LoadIndex: the value stands where the object stood
 module _ (z : Sizes) {m : ℕ} {text : List ℕ} {heap : List ℕ} {d : Depths} {w w' : List ℕ} {k id v j : ℕ} {a : Access} {r : Found} {e : Depths}
     (good : View.Ready d w) (two : 2 ≤ d.operands) (place : k ≡ 3 * (d.operands - 2)) (acc : Accesses w k a) (is : a ≡ To id v) (known : id < z.objects)
-    (f : FindsElement text m heap z.properties id v r) (at : r ≡ At j) (h : Holds w w' k (value_at heap (propertiesAt + 6 * j + 3))) (l : length w' ≡ length w)
+    (f : FindsElement text m heap z.properties id v r) (at : r ≡ At j) (h : Holds w w' k (value_at heap (properties_at + 6 * j + 3))) (l : length w' ≡ length w)
     (end : e ≡ with_operands (d.operands - 1) d) where
   abbrev found : M.Value
-  found = value_at heap (propertiesAt + 6 * j + 3)
+  found = value_at heap (properties_at + 6 * j + 3)
 
   abbrev below : Depths
   below = with_operands (d.operands - 2) d
@@ -140,130 +140,130 @@ module _ (z : Sizes) {m : ℕ} {text : List ℕ} {heap : List ℕ} {d : Depths} 
   put : Quickly Any (I.pushed found) below w (Went e) w'
   put =
       let y : d.operands - 2 + 1 ≡ d.operands - 1 = omega arith in
-      let q = push-holds below w (lower-ready (omega arith) good) found w' (omega (arith, good.operands)) (subst (λ (i : ℕ). Holds w w' i found) place h) l in
-      went-as (end ∙ ap (λ (i : ℕ). with_operands i d) (sym y)) (goes (settles q refl) q.ready)
+      let q = push_holds below w (lower_ready (omega arith) good) found w' (omega (arith, good.operands)) (subst (λ (i : ℕ). Holds w w' i found) place h) l in
+      went_as (end ∙ ap (λ (i : ℕ). with_operands i d) (sym y)) (goes (settles q refl) q.ready)
 
   loads : (n : ℕ) (code : List ℕ) → n ≤ length code → Quickly (Sure (Distinct z heap m text) (Objects n code m text z heap)) I.LoadIndex d w (Went e) w'
   loads n code long =
-      let key = N.formatJsNumber v in
+      let key = N.format_js_number v in
       surely put
-      (λ D. carry (λ y p. loads-index (access-pair good two place acc is) (asValue found) refl (spelled v f.short) (sym ((spelled v f.short).bytes (stores_of code n text m))) long
-      (λ c _. object-known (stores_of c n text m) heap z.objects z.properties id key (value_of (asValue found)) known
-      (property-at (bytes_of text m) heap id key z.properties r (f.row.finds (D.pairs id key)) (bytes_of c n) j (asValue found) at (as-value found)))
-      (subst (λ (u : M.Value). Meets Any (I.pushed u) below w y w') (sym (as-value found)) p)) put)
+      (λ D. carry (λ y p. loads_index (access_pair good two place acc is) (as_value found) refl (spelled v f.short) (sym ((spelled v f.short).bytes (stores_of code n text m))) long
+      (λ c _. object_known (stores_of c n text m) heap z.objects z.properties id key (value_of (as_value found)) known
+      (property_at (bytes_of text m) heap id key z.properties r (f.row.finds (D.pairs id key)) (bytes_of c n) j (as_value found) at (as_value_lem found)))
+      (subst (λ (u : M.Value). Meets Any (I.pushed u) below w y w') (sym (as_value_lem found)) p)) put)
 
-  pub index-loads : (n : ℕ)
+  pub index_loads : (n : ℕ)
       → ((code : List ℕ) → n ≤ length code → Quickly (Sure (Distinct z heap m text) (Objects n code m text z heap)) I.LoadIndex d w (Went e) w') × Stays d w (Went e) w'
-  index-loads n = (loads n, stays-went (kept-within end (below-frames h.apart (omega (arith, good.operands)))))
+  index_loads n = (loads n, stays_went (kept_within end (below_frames h.apart (omega (arith, good.operands)))))
 
 -- A number whose text is digits, and what an array takes it for
 abbrev pub IndexTold : ℕ → Key → Type 0
-IndexTold v (Index e) = (N.decimal e ≡ N.formatJsNumber v) × (e < 2 ^ 32)
+IndexTold v (Index e) = (N.decimal e ≡ N.format_js_number v) × (e < 2 ^ 32)
 IndexTold v Name = Unit {0}
 
 pub record IndexIs (v : ℕ) (r : Key) : Type 0 where
   pub told : IndexTold v r
 
-digit-is : (d : ℕ) → d < 10 → N.isDigit (48 + d) ≡ true
-digit-is d h = rw (le-leb 48 (48 + d) (omega arith), le-leb (48 + d) 57 (omega arith)) refl
+digit_is : (d : ℕ) → d < 10 → N.is_digit (48 + d) ≡ true
+digit_is d h = rw (le-leb 48 (48 + d) (omega arith), le-leb (48 + d) 57 (omega arith)) refl
 
-worth-digit : (n d : ℕ) (bs : List ℕ) → d < 10 → worth n ((48 + d) ∷ bs) ≡ worth (n * 10 + d) bs
-worth-digit n d bs h =
+worth_digit : (n d : ℕ) (bs : List ℕ) → d < 10 → worth n ((48 + d) ∷ bs) ≡ worth (n * 10 + d) bs
+worth_digit n d bs h =
     let z : 48 + d - 48 ≡ d = omega arith in
-    ap (λ (x : Bool). if x then worth (n * 10 + (48 + d - 48)) bs else none) (digit-is d h) ∙ ap (λ (x : ℕ). worth (n * 10 + x) bs) z
+    ap (λ (x : Bool). if x then worth (n * 10 + (48 + d - 48)) bs else none) (digit_is d h) ∙ ap (λ (x : ℕ). worth (n * 10 + x) bs) z
 
 -- a text of digits, before the bytes bs
 pub record Digits (l : List ℕ) (n : ℕ) (bs : List ℕ) : Type 0 where
   pub same : worth 0 l ≡ worth n bs
-  pub some-are : 0 < length l
+  pub some_are : 0 < length l
 
-last-digit : (k n : ℕ) (bs : List ℕ) → n < 10 → Digits (N.decimalOnto (suc k) n bs) n bs
-last-digit k n bs h =
+last_digit : (k n : ℕ) (bs : List ℕ) → n < 10 → Digits (N.decimal_onto (suc k) n bs) n bs
+last_digit k n bs h =
     let z : 0 * 10 + n ≡ n = omega arith in
-    rw (decimal-last k n bs h) (record { same = worth-digit 0 n bs h ∙ ap (λ (x : ℕ). worth x bs) z; some-are = omega arith })
+    rw (decimal_last k n bs h) (record { same = worth_digit 0 n bs h ∙ ap (λ (x : ℕ). worth x bs) z; some_are = omega arith })
 
-digits : (k n : ℕ) (bs : List ℕ) → n < 10 ^ suc k → Digits (N.decimalOnto (suc k) n bs) n bs
-digits zero n bs h = last-digit zero n bs (omega arith)
+digits : (k n : ℕ) (bs : List ℕ) → n < 10 ^ suc k → Digits (N.decimal_onto (suc k) n bs) n bs
+digits zero n bs h = last_digit zero n bs (omega arith)
 digits (suc k) n bs h = by (nat_lt n 10) refl (digits k (n / 10) ((48 + n % 10) ∷ bs) (omega arith))
   where
-    by : (b : Bool) → nat_lt n 10 ≡ b → Digits (N.decimalOnto (suc k) (n / 10) ((48 + n % 10) ∷ bs)) (n / 10) ((48 + n % 10) ∷ bs) → Digits (N.decimalOnto (suc (suc k)) n bs) n bs
-    by true e d = last-digit (suc k) n bs (ltb-true n 10 e)
+    by : (b : Bool) → nat_lt n 10 ≡ b → Digits (N.decimal_onto (suc k) (n / 10) ((48 + n % 10) ∷ bs)) (n / 10) ((48 + n % 10) ∷ bs) → Digits (N.decimal_onto (suc (suc k)) n bs) n bs
+    by true e d = last_digit (suc k) n bs (ltb-true n 10 e)
     by false e d =
         let z : n / 10 * 10 + n % 10 ≡ n = omega arith in
-        rw (decimal-more (suc k) n bs (ltb-false n 10 e))
-        (record { same = d.same ∙ worth-digit (n / 10) (n % 10) bs (omega arith) ∙ ap (λ (x : ℕ). worth x bs) z; some-are = d.some-are })
+        rw (decimal_more (suc k) n bs (ltb-false n 10 e))
+        (record { same = d.same ∙ worth_digit (n / 10) (n % 10) bs (omega arith) ∙ ap (λ (x : ℕ). worth x bs) z; some_are = d.some_are })
 
 -- no digit is a sign
-key_of : (l : List ℕ) (n : ℕ) → 0 < length l → worth 0 l ≡ some n → some n ≡ arrayKey l
+key_of : (l : List ℕ) (n : ℕ) → 0 < length l → worth 0 l ≡ some n → some n ≡ array_key l
 key_of [] n h e = absurd (omega arith)
 key_of (b ∷ bs) n h e = by (b == 43) refl
   where
-    by : (x : Bool) → (b == 43) ≡ x → some n ≡ arrayKey (b ∷ bs)
+    by : (x : Bool) → (b == 43) ≡ x → some n ≡ array_key (b ∷ bs)
     by true q =
         let y : worth 0 (b ∷ bs) ≡ none = ap (λ (c : ℕ). worth 0 (c ∷ bs)) (eqb-true b 43 q) in
         let z : ◌≡◌ {A = ℕ} 0 1 = cc in
         absurd (omega arith)
-    by false q = sym (ap (λ (x : Bool). if x then digitsKey bs else digitsKey (b ∷ bs)) q ∙ e)
+    by false q = sym (ap (λ (x : Bool). if x then digits_key bs else digits_key (b ∷ bs)) q ∙ e)
 
-decimal-key : (n : ℕ) → n < 2 ^ 64 → some n ≡ arrayKey (N.decimal n)
-decimal-key n h =
+decimal_key : (n : ℕ) → n < 2 ^ 64 → some n ≡ array_key (N.decimal n)
+decimal_key n h =
     let d = digits 19 n [] (omega arith) in
-    key_of (N.decimal n) n d.some-are (d.same ∙ ap (λ (x : Bool). if x then some n else none) (lt-ltb n (2 ^ 64) h))
+    key_of (N.decimal n) n d.some_are (d.same ∙ ap (λ (x : Bool). if x then some n else none) (lt-ltb n (2 ^ 64) h))
 
-pub whole-index : (v : ℕ) → v < 2 ^ 63 → v % 2 ^ 32 ≡ 0 → IndexIs v (Index (v / 2 ^ 32))
-whole-index v h e = record { told = (sym (whole-text v h e), omega arith) }
+pub whole_index : (v : ℕ) → v < 2 ^ 63 → v % 2 ^ 32 ≡ 0 → IndexIs v (Index (v / 2 ^ 32))
+whole_index v h e = record { told = (sym (whole_text v h e), omega arith) }
 
 -- the digits of n: those from place i of s on stand there, and those of m are to come
 pub record Reading (s : List ℕ) (n i m : ℕ) : Type 0 where
   pub most : ℕ
-  pub same_digits : N.decimal n ≡ N.decimalOnto (suc most) m (drop i s)
+  pub same_digits : N.decimal n ≡ N.decimal_onto (suc most) m (drop i s)
   pub fits : m < 10 ^ suc most
   pub within : i ≤ length s
 
-pub reading-start : (s : List ℕ) (n : ℕ) → n < 2 ^ 64 → Reading s n (length s) n
-reading-start s n h =
-    record { most = 19; same_digits = ap (λ (x : List ℕ). N.decimalOnto 20 n x) (sym (drop_of_length-le s {i = length s} (omega arith))); fits = omega arith; within = omega arith }
+pub reading_start : (s : List ℕ) (n : ℕ) → n < 2 ^ 64 → Reading s n (length s) n
+reading_start s n h =
+    record { most = 19; same_digits = ap (λ (x : List ℕ). N.decimal_onto 20 n x) (sym (drop_of_length-le s {i = length s} (omega arith))); fits = omega arith; within = omega arith }
 
 module _ {s : List ℕ} {n i m : ℕ} (r : Reading s n i m) where
-  pub reading-more : 10 ≤ m → (i ≢ 0) → slice_index s (i - 1) ≡ 48 + m % 10 → Reading s n (i - 1) (m / 10)
-  reading-more h z e = go r.most r.same_digits r.fits
+  pub reading_more : 10 ≤ m → (i ≢ 0) → slice_index s (i - 1) ≡ 48 + m % 10 → Reading s n (i - 1) (m / 10)
+  reading_more h z e = go r.most r.same_digits r.fits
     where
       behind : drop (i - 1) s ≡ (48 + m % 10) ∷ drop i s
       behind =
           let up : suc (i - 1) ≡ i = omega (arith, z) in
           drop-cons s (i - 1) 0 (omega (arith, z, r.within)) ∙ ap (λ (x : ℕ). x ∷ drop (suc (i - 1)) s) e ∙ ap (λ (x : ℕ). (48 + m % 10) ∷ drop x s) up
 
-      go : (f : ℕ) → N.decimal n ≡ N.decimalOnto (suc f) m (drop i s) → m < 10 ^ suc f → Reading s n (i - 1) (m / 10)
+      go : (f : ℕ) → N.decimal n ≡ N.decimal_onto (suc f) m (drop i s) → m < 10 ^ suc f → Reading s n (i - 1) (m / 10)
       go zero a b = absurd (omega arith)
       go (suc f) a b = record {
         most = f;
-        same_digits = a ∙ decimal-more (suc f) m (drop i s) h ∙ ap (λ (x : List ℕ). N.decimalOnto (suc f) (m / 10) x) (sym behind);
+        same_digits = a ∙ decimal_more (suc f) m (drop i s) h ∙ ap (λ (x : List ℕ). N.decimal_onto (suc f) (m / 10) x) (sym behind);
         fits = omega arith;
         within = omega (arith, r.within);
       }
 
-  pub reading-all : m < 10 → i ≡ 1 → slice_index s 0 ≡ 48 + m → N.decimal n ≡ s
-  reading-all h z e =
-      r.same_digits ∙ decimal-last r.most m (drop i s) h ∙ ap (λ (x : ℕ). (48 + m) ∷ drop x s) z
+  pub reading_all : m < 10 → i ≡ 1 → slice_index s 0 ≡ 48 + m → N.decimal n ≡ s
+  reading_all h z e =
+      r.same_digits ∙ decimal_last r.most m (drop i s) h ∙ ap (λ (x : ℕ). (48 + m) ∷ drop x s) z
       ∙ sym (drop-cons s 0 0 (omega (arith, z, r.within)) ∙ ap (λ (x : ℕ). x ∷ drop 1 s) e)
 
 same_self : (l : List ℕ) → same l l ≡ true
 same_self [] = refl
 same_self (x ∷ xs) = ap (λ (b : Bool). b && same xs xs) (eq-eqb x x refl) ∙ same_self xs
 
-pub digits-row : {t : List ℕ} {m : ℕ} {h : List ℕ} {k o v n : ℕ} {p : Part} {y : Key} → IndexIs v y → y ≡ Index n → slice_index h k ≡ o → Places (slice_index h (k + 1)) (slice_index h (k + 2)) m p
-    → m ≤ length t → N.decimal n ≡ part_of t p.from p.to → RowIs t m h k o (N.formatJsNumber v)
-digits-row {t} {m} {h} {k} {o} {v} {n} i a e p l d =
+pub digits_row : {t : List ℕ} {m : ℕ} {h : List ℕ} {k o v n : ℕ} {p : Part} {y : Key} → IndexIs v y → y ≡ Index n → slice_index h k ≡ o → Places (slice_index h (k + 1)) (slice_index h (k + 2)) m p
+    → m ≤ length t → N.decimal n ≡ part_of t p.from p.to → RowIs t m h k o (N.format_js_number v)
+digits_row {t} {m} {h} {k} {o} {v} {n} i a e p l d =
     let x : IndexTold v (Index n) = rw a at i.told in
-    let key = N.formatJsNumber v in
+    let key = N.format_js_number v in
     record { head = e; key = ap (λ (b : List ℕ). same b key) (sym (p.bytes t l) ∙ sym d ∙ x.0) ∙ same_self key }
 
 -- An element below an array's length, whose row is p
 pub record Below (t : List ℕ) (m : ℕ) (h : List ℕ) (n o v p : ℕ) : Type 0 where
   pub index : ℕ
-  pub key : some index ≡ arrayKey (N.formatJsNumber v)
-  pub row : Locates (pair_at (bytes_of t m) h o lengthKey) n (At p)
-  pub below : index < lengthFloor (value_at h (propertiesAt + 6 * p + 3))
+  pub key : some index ≡ array_key (N.format_js_number v)
+  pub row : Locates (pair_at (bytes_of t m) h o length_key) n (At p)
+  pub below : index < length_floor (value_at h (properties_at + 6 * p + 3))
 
 abbrev pub BelowTold : List ℕ → ℕ → List ℕ → ℕ → ℕ → ℕ → Alone → Type 0
 BelowTold t m h n o v (By p) = Below t m h n o v p
@@ -272,14 +272,14 @@ BelowTold t m h n o v Alone-as-Other = Unit {0}
 pub record IsBelow (t : List ℕ) (m : ℕ) (h : List ℕ) (n o v : ℕ) (r : Alone) : Type 0 where
   pub told : BelowTold t m h n o v r
 
-pub is_below : {t : List ℕ} {m : ℕ} {h : List ℕ} {n o v e p floor : ℕ} {y : Key} {r : Found} (u : Value) → IndexIs v y → y ≡ Index e → Locates (pair_at (bytes_of t m) h o lengthKey) n r → r ≡ At p
-    → value_of u ≡ value_at h (propertiesAt + 6 * p + 3) → floor ≡ lengthFloor (value_of u) → e < floor → IsBelow t m h n o v (By p)
+pub is_below : {t : List ℕ} {m : ℕ} {h : List ℕ} {n o v e p floor : ℕ} {y : Key} {r : Found} (u : Value) → IndexIs v y → y ≡ Index e → Locates (pair_at (bytes_of t m) h o length_key) n r → r ≡ At p
+    → value_of u ≡ value_at h (properties_at + 6 * p + 3) → floor ≡ length_floor (value_of u) → e < floor → IsBelow t m h n o v (By p)
 is_below {t} {m} {h} {n} {o} {v} {e} {p} u i a l b q f g = record {
   told = record {
     index = e;
-    key = let x : IndexTold v (Index e) = rw a at i.told in decimal-key e (omega (arith, x.1)) ∙ ap arrayKey x.0;
+    key = let x : IndexTold v (Index e) = rw a at i.told in decimal_key e (omega (arith, x.1)) ∙ ap array_key x.0;
     row = rw b at l;
-    below = let z = f ∙ ap lengthFloor q in omega (arith, z);
+    below = let z = f ∙ ap length_floor q in omega (arith, z);
   };
 }
 
@@ -293,34 +293,34 @@ AloneTold k t m h n o v Alone-as-Other = Unit {0}
 pub record PutsAlone (k : ObjectType) (t : List ℕ) (m : ℕ) (h : List ℕ) (n o v : ℕ) (r : Alone) : Type 0 where
   pub told : AloneTold k t m h n o v r
 
-alone-sets : (kind : ObjectType) (p : ℕ) (z : Sizes) (w : List ℕ) (m : ℕ) (t : List ℕ) (o v : ℕ) (u : M.Value) (x : Placed) (w' t' : List ℕ)
-    → AloneTold kind t m w z.properties o v (By p) → kindIn kind ≡ get_elem? (objectsOf w z.objects) o → Distinct z w m t → Sized z w
-    → Puts (A.putProperty o (N.formatJsNumber v) u) z w m t x w' t' → Sets (M.object o) (N.formatJsNumber v) u z w m t x w' t'
-alone-sets NoObject p z w m t o v u x w' t' a k D good s = absurd a
-alone-sets Ordinary p z w m t o v u x w' t' a k D good s = sets-ordinary z w m t o (N.formatJsNumber v) u Ordinary k x w' t' refl good s
-alone-sets Array p z w m t o v u x w' t' a k D good s =
-    let key = N.formatJsNumber v in
-    let l = value_at w (propertiesAt + 6 * p + 3) in
-    sets-array z w m t o key u Array k x w' t' refl
-    (array-below z w m t o key u (Index a.index) a.key a.index refl (At p) (a.row.finds (D.pairs o lengthKey)) p refl (asValue l) (as-value l) (lengthFloor l)
-    (ap lengthFloor (sym (as-value l))) x w' t' a.below good s)
+alone_sets : (kind : ObjectType) (p : ℕ) (z : Sizes) (w : List ℕ) (m : ℕ) (t : List ℕ) (o v : ℕ) (u : M.Value) (x : Placed) (w' t' : List ℕ)
+    → AloneTold kind t m w z.properties o v (By p) → kind_in kind ≡ get_elem? (objects_of w z.objects) o → Distinct z w m t → Sized z w
+    → Puts (A.put_property o (N.format_js_number v) u) z w m t x w' t' → Sets (M.object o) (N.format_js_number v) u z w m t x w' t'
+alone_sets NoObject p z w m t o v u x w' t' a k D good s = absurd a
+alone_sets Ordinary p z w m t o v u x w' t' a k D good s = sets_ordinary z w m t o (N.format_js_number v) u Ordinary k x w' t' refl good s
+alone_sets Array p z w m t o v u x w' t' a k D good s =
+    let key = N.format_js_number v in
+    let l = value_at w (properties_at + 6 * p + 3) in
+    sets_array z w m t o key u Array k x w' t' refl
+    (array_below z w m t o key u (Index a.index) a.key a.index refl (At p) (a.row.finds (D.pairs o length_key)) p refl (as_value l) (as_value_lem l) (length_floor l)
+    (ap length_floor (sym (as_value_lem l))) x w' t' a.below good s)
 
-pub alone-ordinary : {k : ObjectType} {t : List ℕ} {m : ℕ} {h : List ℕ} {n o v p : ℕ} → k ≡ Ordinary → PutsAlone k t m h n o v (By p)
-alone-ordinary e = rw e (record { told = tt })
+pub alone_ordinary : {k : ObjectType} {t : List ℕ} {m : ℕ} {h : List ℕ} {n o v p : ℕ} → k ≡ Ordinary → PutsAlone k t m h n o v (By p)
+alone_ordinary e = rw e (record { told = tt })
 
-alone-array : (t : List ℕ) (m : ℕ) (h : List ℕ) (n o v : ℕ) (r : Alone) → BelowTold t m h n o v r → AloneTold Array t m h n o v r
-alone-array t m h n o v (By p) b = b
-alone-array t m h n o v Alone-as-Other b = tt
+alone_array : (t : List ℕ) (m : ℕ) (h : List ℕ) (n o v : ℕ) (r : Alone) → BelowTold t m h n o v r → AloneTold Array t m h n o v r
+alone_array t m h n o v (By p) b = b
+alone_array t m h n o v Alone-as-Other b = tt
 
-pub alone-below : {k : ObjectType} {t : List ℕ} {m : ℕ} {h : List ℕ} {n o v : ℕ} {r : Alone} → k ≡ Array → IsBelow t m h n o v r → PutsAlone k t m h n o v r
-alone-below {t = t} {m = m} {h = h} {n = n} {o = o} {v = v} {r = r} e b = rw e (record { told = alone-array t m h n o v r b.told })
+pub alone_below : {k : ObjectType} {t : List ℕ} {m : ℕ} {h : List ℕ} {n o v : ℕ} {r : Alone} → k ≡ Array → IsBelow t m h n o v r → PutsAlone k t m h n o v r
+alone_below {t = t} {m = m} {h = h} {n = n} {o = o} {v = v} {r = r} e b = rw e (record { told = alone_array t m h n o v r b.told })
 
 -- StoreIndex: the value above the number is brought into the row
 module _ (c : Counts) {w h t h' : List ℕ} {k id v j p : ℕ} {a : Access} {r : Found} {kind : ObjectType} {y : Alone} {e : Depths}
-    (good : View.Ready c.depths w) (sized : Sized c.sizes h) (fits : (c.text ≤ textLimit) × (length t ≡ textLimit)) (three : 3 ≤ c.depths.operands)
+    (good : View.Ready c.depths w) (sized : Sized c.sizes h) (fits : (c.text ≤ text_limit) × (length t ≡ text_limit)) (three : 3 ≤ c.depths.operands)
     (place : k ≡ 3 * (c.depths.operands - 3)) (acc : Accesses w k a) (is : a ≡ To id v) (f : FindsElement t c.text h c.sizes.properties id v r) (at : r ≡ At j)
-    (q : kindIn kind ≡ get_elem? (objectsOf h c.sizes.objects) id) (alone : PutsAlone kind t c.text h c.sizes.properties id v y) (by : y ≡ By p)
-    (held : Holds h h' (propertiesAt + 6 * j + 3) (value_at w (k + 6))) (same : length h' ≡ length h) (end : e ≡ with_operands (c.depths.operands - 3) c.depths) where
+    (q : kind_in kind ≡ get_elem? (objects_of h c.sizes.objects) id) (alone : PutsAlone kind t c.text h c.sizes.properties id v y) (by : y ≡ By p)
+    (held : Holds h h' (properties_at + 6 * j + 3) (value_at w (k + 6))) (same : length h' ≡ length h) (end : e ≡ with_operands (c.depths.operands - 3) c.depths) where
   abbrev top : M.Value
   top = newest c.depths w
 
@@ -329,23 +329,23 @@ module _ (c : Counts) {w h t h' : List ℕ} {k id v j p : ℕ} {a : Access} {r :
       let d = c.depths in
       let z : d.operands - 1 - 2 ≡ d.operands - 3 = omega arith in
       subst (λ (i : ℕ). Pairs (with_operands (d.operands - 1) d) w (Pair-as-Both (Object id) (Number v) (with_operands i d))) z
-      (access-pair {e = with_operands (d.operands - 1) d} (pop-ready d w good) (omega arith) (omega arith) acc is)
+      (access_pair {e = with_operands (d.operands - 1) d} (pop_ready d w good) (omega arith) (omega arith) acc is)
 
-  held-top : Holds h h' (propertiesAt + 6 * j + 3) top
-  held-top =
+  held_top : Holds h h' (properties_at + 6 * j + 3) top
+  held_top =
       let z : k + 6 ≡ 3 * (c.depths.operands - 1) = omega arith in
-      subst (λ (i : ℕ). Holds h h' (propertiesAt + 6 * j + 3) (value_at w i)) z held
+      subst (λ (i : ℕ). Holds h h' (properties_at + 6 * j + 3) (value_at w i)) z held
 
   stored : Distinct c.sizes h c.text t → (code : List ℕ)
-      → Sets (M.object id) (sourceBytes (stores_of code c.code t c.text) (filled (N.formatJsNumber v)) (Buffer (length (N.formatJsNumber v)))) (value_of (asValue top)) c.sizes h c.text t
+      → Sets (M.object id) (source_bytes (stores_of code c.code t c.text) (filled (N.format_js_number v)) (Buffer (length (N.format_js_number v)))) (value_of (as_value top)) c.sizes h c.text t
       (Placed-as-Went c.sizes c.text) h' t
   stored D code =
-      let key = N.formatJsNumber v in
+      let key = N.format_js_number v in
       let told : AloneTold kind t c.text h c.sizes.properties id v (By p) = rw by at alone.told in
-      subst (λ (b : List ℕ). Sets (M.object id) b (value_of (asValue top)) c.sizes h c.text t (Placed-as-Went c.sizes c.text) h' t)
+      subst (λ (b : List ℕ). Sets (M.object id) b (value_of (as_value top)) c.sizes h c.text t (Placed-as-Went c.sizes c.text) h' t)
       (sym ((spelled v f.short).bytes (stores_of code c.code t c.text)))
-      (alone-sets kind p c.sizes h c.text t id v (value_of (asValue top)) (Placed-as-Went c.sizes c.text) h' t told q D sized
-      (property-held c.sizes h c.text t sized fits.0 fits.1 key r top j h' at same id (f.row.finds (D.pairs id key)) held-top))
+      (alone_sets kind p c.sizes h c.text t id v (value_of (as_value top)) (Placed-as-Went c.sizes c.text) h' t told q D sized
+      (property_held c.sizes h c.text t sized fits.0 fits.1 key r top j h' at same id (f.row.finds (D.pairs id key)) held_top))
 
   stores : (code o : List ℕ) → Distinct c.sizes h c.text t → Reaches (Loaded c.code code) I.StoreIndex c (mem w h t o) (Went e) (mem w h' t o)
   stores code o D =
@@ -353,11 +353,11 @@ module _ (c : Counts) {w h t h' : List ℕ} {k id v j p : ℕ} {a : Access} {r :
       subst (λ (y : Depths). Reaches (Loaded c.code code) I.StoreIndex c (mem w h t o) (Went y) (mem w h' t o)) (sym end)
       (record {
         told = (
-          index-stored code (pop-took d w good (asValue top) (λ z. omega arith) (as-value top)) refl pair refl (spelled v f.short) (stored D code) refl o,
-          lower-ready (omega arith) good,
+          index_stored code (pop_took d w good (as_value top) (λ z. omega arith) (as_value_lem top)) refl pair refl (spelled v f.short) (stored D code) refl o,
+          lower_ready (omega arith) good,
         );
       })
 
-  pub index-stores : ((code o : List ℕ) → c.code ≤ length code → Reaches (Sure (Distinct c.sizes h c.text t) (Loaded c.code code)) I.StoreIndex c (mem w h t o) (Went e) (mem w h' t o))
+  pub index_stores : ((code o : List ℕ) → c.code ≤ length code → Reaches (Sure (Distinct c.sizes h c.text t) (Loaded c.code code)) I.StoreIndex c (mem w h t o) (Went e) (mem w h' t o))
       × Stays c.depths w (Went e) w
-  index-stores = (λ code o _. surely-reaches (subst (λ (y : Depths). View.Ready y w) (sym end) (lower-ready (omega arith) good)) (stores code o), stays-went (kept-operands end))
+  index_stores = (λ code o _. surely_reaches (subst (λ (y : Depths). View.Ready y w) (sym end) (lower_ready (omega arith) good)) (stores code o), stays_went (kept_operands end))

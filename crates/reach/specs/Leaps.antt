@@ -7,29 +7,29 @@ use Rattle.machine.specs.Program.{Program}
 use Rattle.machine.specs.Instruction as I
 use Rattle.machine.specs.Run as R
 use Rattle.std.specs.Prelude.{if◌then◌else◌}
-use Rattle.machine.specs.Convert.{isText, toNumber, toJsString}
+use Rattle.machine.specs.Convert.{is_text, to_number, to_js_string}
 use Rattle.machine.specs.Number as N
-use Rattle.machine.specs.Out.{went, out, out-look}
-use Rattle.value.specs.Words.{value_of, value_at, setValue}
+use Rattle.machine.specs.Out.{went, out, out_look}
+use Rattle.value.specs.Words.{value_of, value_at, set_value}
 use Rattle.value.specs.declared.Value.{Value}
 use Rattle.value.specs.declared.Value.TheVariants.{MadeText}
-use Rattle.stacks.specs.Laws.{withIp, with_operands, pop-took, pop-ready, push-went}
+use Rattle.stacks.specs.Laws.{with_ip, with_operands, pop_took, pop_ready, push_went}
 use Rattle.stacks.specs.View
 use Rattle.stacks.specs.declared.Depths.{Depths}
-use Rattle.texts.specs.Keeps.{textLimit, Keeps, appended, full}
+use Rattle.texts.specs.Keeps.{text_limit, Keeps, appended, full}
 use Rattle.texts.specs.Sources.{stores_of}
 use Rattle.texts.specs.declared.Kept.{Kept}
 use Rattle.texts.specs.declared.Kept.TheVariants.{Went as Kept-as-Went, Refused as Kept-as-Refused}
-use Rattle.outcome.specs.Meets.{Pairs, joins, pair-both}
+use Rattle.outcome.specs.Meets.{Pairs, joins, pair_both}
 use Rattle.outcome.specs.declared.Pair.TheVariants.{Both}
 use Rattle.fetch.specs.declared.Running.{Running}
 use Rattle.fetch.specs.Running.{Runs}
-use Rattle.readops.specs.Constants.{addOf}
+use Rattle.readops.specs.Constants.{add_of}
 use Rattle.heapops.specs.declared.Counts.{Counts}
 use Rattle.heapops.specs.declared.How.TheVariants.{Went as How-as-Went}
-use Rattle.heapops.specs.Turns.{Mem, mem, below, state_of, withDepths, turned, Turns, Loaded}
+use Rattle.heapops.specs.Turns.{Mem, mem, below, state_of, with_depths, turned, Turns, Loaded}
 use Rattle.heapops.specs.Follows.{weaken}
-use Rattle.heapops.specs.Makes.{withText, text-pushed, joined}
+use Rattle.heapops.specs.Makes.{with_text, text_pushed_lem, joined}
 use Rattle.finish.specs.Parts.{Tables, Ground}
 use Rattle.quick.specs.declared.Quick.{Quick}
 use Rattle.quick.specs.declared.Quick.TheVariants.{Went as Quick-as-Went, Left as Quick-as-Left}
@@ -40,12 +40,12 @@ use Rattle.reach.specs.Reaches as Reach
 use Rattle.reach.specs.Reaches.{Reaches}
 
 -- the counts after it
-abbrev pub leaptTo : Depths → ℕ → Counts → Counts
-leaptTo d k c = withText k (withDepths d c)
+abbrev pub leapt_to : Depths → ℕ → Counts → Counts
+leapt_to d k c = with_text k (with_depths d c)
 
 -- THE CONTRACT: it went, as the machine's program p does over every state of which H holds; or it is left, and the stores are as they were.
 abbrev pub Told : (St.State → Type 0) → Program → Counts → Mem → Leap → Mem → Type 0
-Told H p c m (Went e k) m' = Turns H p c m (turned (leaptTo e k c) How-as-Went) m' × View.Ready e m'.stacks × (k ≤ textLimit)
+Told H p c m (Went e k) m' = Turns H p c m (turned (leapt_to e k c) How-as-Went) m' × View.Ready e m'.stacks × (k ≤ text_limit)
 Told H p c m Left m' = m' ≡ m
 
 pub record Leaps (H : St.State → Type 0) (p : Program) (c : Counts) (m : Mem) (r : Leap) (m' : Mem) : Type 0 where
@@ -53,35 +53,35 @@ pub record Leaps (H : St.State → Type 0) (p : Program) (c : Counts) (m : Mem) 
 
 -- and of a step: the program is the one for the state that stands
 abbrev pub StepTold : (St.State → Type 0) → Counts → Mem → Leap → Mem → Type 0
-StepTold H c m (Went e k) m' = ((s : St.State) → H s → out (R.body (R.kind_of (state_of c m s))) (state_of c m s) ≡ went (state_of (leaptTo e k c) m' s)) × View.Ready e m'.stacks × (k ≤ textLimit)
+StepTold H c m (Went e k) m' = ((s : St.State) → H s → out (R.body (R.kind_of (state_of c m s))) (state_of c m s) ≡ went (state_of (leapt_to e k c) m' s)) × View.Ready e m'.stacks × (k ≤ text_limit)
 StepTold H c m Left m' = m' ≡ m
 
 pub record LeapStep (H : St.State → Type 0) (c : Counts) (m : Mem) (r : Leap) (m' : Mem) : Type 0 where
   pub told : StepTold H c m r m'
 
 -- with the text as it was
-abbrev pub leapOf : ℕ → Quick → Leap
-leapOf m (Quick-as-Went e) = Went e m
-leapOf m Quick-as-Left = Left
+abbrev pub leap_of : ℕ → Quick → Leap
+leap_of m (Quick-as-Went e) = Went e m
+leap_of m Quick-as-Left = Left
 
-quick-told : (H : St.State → Type 0) (p : Program) (c : Counts) (m m' : Mem) (q : Quick) → c.text ≤ textLimit → Reach.Told H p c m q m' → Told H p c m (leapOf c.text q) m'
-quick-told H p c m m' (Quick-as-Went e) l t = (t.0, t.1, l)
-quick-told H p c m m' Quick-as-Left l t = t
+quick_told : (H : St.State → Type 0) (p : Program) (c : Counts) (m m' : Mem) (q : Quick) → c.text ≤ text_limit → Reach.Told H p c m q m' → Told H p c m (leap_of c.text q) m'
+quick_told H p c m m' (Quick-as-Went e) l t = (t.0, t.1, l)
+quick_told H p c m m' Quick-as-Left l t = t
 
-pub leap-lifts : {H : St.State → Type 0} {p : Program} {c : Counts} {m m' : Mem} {q : Quick} {r : Leap} → c.text ≤ textLimit → r ≡ leapOf c.text q → Reaches H p c m q m' → Leaps H p c m r m'
-leap-lifts {H} {p} {c} {m} {m'} {q} l e t = subst (λ (y : Leap). Leaps H p c m y m') (sym e) (record { told = quick-told H p c m m' q l t.told })
+pub leap_lifts : {H : St.State → Type 0} {p : Program} {c : Counts} {m m' : Mem} {q : Quick} {r : Leap} → c.text ≤ text_limit → r ≡ leap_of c.text q → Reaches H p c m q m' → Leaps H p c m r m'
+leap_lifts {H} {p} {c} {m} {m'} {q} l e t = subst (λ (y : Leap). Leaps H p c m y m') (sym e) (record { told = quick_told H p c m m' q l t.told })
 
-weaken-told : (H K : St.State → Type 0) (p : Program) (c : Counts) (m m' : Mem) (r : Leap) → ((s : St.State) → H s → K s) → Told K p c m r m' → Told H p c m r m'
-weaken-told H K p c m m' (Went e k) f t = (weaken f t.0, t.1, t.2)
-weaken-told H K p c m m' Left f t = t
+weaken_told : (H K : St.State → Type 0) (p : Program) (c : Counts) (m m' : Mem) (r : Leap) → ((s : St.State) → H s → K s) → Told K p c m r m' → Told H p c m r m'
+weaken_told H K p c m m' (Went e k) f t = (weaken f t.0, t.1, t.2)
+weaken_told H K p c m m' Left f t = t
 
-pub join-lifts : {x : Running} {c : Counts} {g : Tables} {p : Program} {m m' : Mem} {r : Leap} → Leaps (Loaded c.code g.code) p c m r m' → Leaps (Ground x c g) p c m r m'
-join-lifts {x} {c} {g} {p} {m} {m'} {r} t = record { told = weaken-told (Ground x c g) (Loaded c.code g.code) p c m m' r (λ s i. record { code = i.code }) t.told }
+pub join_lifts : {x : Running} {c : Counts} {g : Tables} {p : Program} {m m' : Mem} {r : Leap} → Leaps (Loaded c.code g.code) p c m r m' → Leaps (Ground x c g) p c m r m'
+join_lifts {x} {c} {g} {p} {m} {m'} {r} t = record { told = weaken_told (Ground x c g) (Loaded c.code g.code) p c m m' r (λ s i. record { code = i.code }) t.told }
 
 -- Texts joined: the result stands where the older operand stood
-module _ (c : Counts) (code : List ℕ) {w t t' : List ℕ} (good : View.Ready c.depths w) (long : length t ≡ textLimit) (two : 2 ≤ c.depths.operands) (a b : Value)
-    (ea : value_of a ≡ value_at w (3 * (c.depths.operands - 2))) (eb : value_of b ≡ value_at w (3 * (c.depths.operands - 2) + 3)) {z : Bool} (has : z ≡ isText (value_of a) || isText (value_of b)) (yes : z ≡ true)
-    {k : Kept} (keeps : Keeps (toJsString (stores_of code c.code t c.text) (value_of a) ++ toJsString (stores_of code c.code t c.text) (value_of b)) c.text t k t') where
+module _ (c : Counts) (code : List ℕ) {w t t' : List ℕ} (good : View.Ready c.depths w) (long : length t ≡ text_limit) (two : 2 ≤ c.depths.operands) (a b : Value)
+    (ea : value_of a ≡ value_at w (3 * (c.depths.operands - 2))) (eb : value_of b ≡ value_at w (3 * (c.depths.operands - 2) + 3)) {z : Bool} (has : z ≡ is_text (value_of a) || is_text (value_of b)) (yes : z ≡ true)
+    {k : Kept} (keeps : Keeps (to_js_string (stores_of code c.code t c.text) (value_of a) ++ to_js_string (stores_of code c.code t c.text) (value_of b)) c.text t k t') where
   popped : Pairs c.depths w (Both a b (with_operands (c.depths.operands - 2) c.depths))
   popped =
       let d = c.depths in
@@ -89,47 +89,47 @@ module _ (c : Counts) (code : List ℕ) {w t t' : List ℕ} (good : View.Ready c
       let y : 3 * (n - 2) + 3 ≡ 3 * (n - 1) = omega (arith, two) in
       let x : 3 * (n - 2) ≡ 3 * (n - 1 - 1) = omega arith in
       let e : n - 1 - 1 ≡ n - 2 = omega arith in
-      let top = pop-took d w good b (λ q. omega (arith, two)) (eb ∙ ap (value_at w) y) in
-      let next = pop-took (with_operands (n - 1) d) w (pop-ready d w good) a (λ q. omega (arith, two)) (ea ∙ ap (value_at w) x) in
-      subst (λ (m : ℕ). Pairs d w (Both a b (with_operands m d))) e (pair-both top refl next refl)
+      let top = pop_took d w good b (λ q. omega (arith, two)) (eb ∙ ap (value_at w) y) in
+      let next = pop_took (with_operands (n - 1) d) w (pop_ready d w good) a (λ q. omega (arith, two)) (ea ∙ ap (value_at w) x) in
+      subst (λ (m : ℕ). Pairs d w (Both a b (with_operands m d))) e (pair_both top refl next refl)
 
-  begun : (s : St.State) → out I.Add (View.onStacks c.depths w s) ≡ out (joins (value_of a) (value_of b)) (View.onStacks (with_operands (c.depths.operands - 2) c.depths) w s)
+  begun : (s : St.State) → out I.Add (View.on_stacks c.depths w s) ≡ out (joins (value_of a) (value_of b)) (View.on_stacks (with_operands (c.depths.operands - 2) c.depths) w s)
   begun s =
       let e = with_operands (c.depths.operands - 2) c.depths in
-      let text : Program = I.keeping (toJsString (St.bytes s) (value_of a) ++ toJsString (St.bytes s) (value_of b)) (λ t. I.pushed (M.text t)) in
-      popped.goes s addOf
-      ∙ ap (λ (u : Bool). out (if u then text else I.pushed (M.number (N.add (toNumber (St.bytes s) (value_of a)) (toNumber (St.bytes s) (value_of b))))) (View.onStacks e w s)) (sym has ∙ yes)
-      ∙ sym (out-look (View.onStacks e w s) (λ s. I.keeping (toJsString (St.bytes s) (value_of a) ++ toJsString (St.bytes s) (value_of b)) (λ t. I.pushed (M.text t))))
+      let text : Program = I.keeping (to_js_string (St.bytes s) (value_of a) ++ to_js_string (St.bytes s) (value_of b)) (λ t. I.pushed (M.text t)) in
+      popped.goes s add_of
+      ∙ ap (λ (u : Bool). out (if u then text else I.pushed (M.number (N.add (to_number (St.bytes s) (value_of a)) (to_number (St.bytes s) (value_of b))))) (View.on_stacks e w s)) (sym has ∙ yes)
+      ∙ sym (out_look (View.on_stacks e w s) (λ s. I.keeping (to_js_string (St.bytes s) (value_of a) ++ to_js_string (St.bytes s) (value_of b)) (λ t. I.pushed (M.text t))))
 
-  pub joins-text : {n size : ℕ} {e : Depths} {w' : List ℕ} → k ≡ Kept-as-Went n → size ≡ n - c.text → w' ≡ setValue w (3 * (c.depths.operands - 2)) (MadeText c.text size)
+  pub joins_text : {n size : ℕ} {e : Depths} {w' : List ℕ} → k ≡ Kept-as-Went n → size ≡ n - c.text → w' ≡ set_value w (3 * (c.depths.operands - 2)) (MadeText c.text size)
       → e ≡ with_operands (c.depths.operands - 1) c.depths → (h o : List ℕ) → Leaps (Loaded c.code code) I.Add c (mem w h t o) (Went e n) (mem w' h t' o)
-  joins-text {n} {size} {e} {w'} f l g y h o =
+  joins_text {n} {size} {e} {w'} f l g y h o =
       let d = c.depths in
       let low : Depths = with_operands (d.operands - 2) d in
       let r : View.Ready low w = record { operands = omega (arith, good.operands); slots = good.slots; frames = good.frames; handlers = good.handlers; size = good.size } in
-      let push = push-went low w r (MadeText c.text size) w' (omega (arith, good.operands, two)) g in
-      let p = text-pushed (withDepths low c) low w f l push refl in
-      let turns = joined {c = withDepths low c} (value_of a) (value_of b) long keeps p h o in
+      let push = push_went low w r (MadeText c.text size) w' (omega (arith, good.operands, two)) g in
+      let p = text_pushed_lem (with_depths low c) low w f l push refl in
+      let turns = joined {c = with_depths low c} (value_of a) (value_of b) long keeps p h o in
       let q : d.operands - 2 + 1 ≡ d.operands - 1 = omega (arith, two) in
       subst (λ (u : Depths). Leaps (Loaded c.code code) I.Add c (mem w h t o) (Went u n) (mem w' h t' o)) (ap (λ (i : ℕ). with_operands i d) q ∙ sym y)
       (record { told = (record { goes = λ s i. begun (below c (mem w h t o) s) ∙ turns.goes s i; kept = tt }, push.ready, (appended keeps f).1) })
 
-  pub join-left : k ≡ Kept-as-Refused → (h o : List ℕ) → Leaps (Loaded c.code code) I.Add c (mem w h t o) Left (mem w h t' o)
-  join-left f h o = record { told = ap (λ (u : List ℕ). mem w h u o) (full keeps f).1 }
+  pub join_left : k ≡ Kept-as-Refused → (h o : List ℕ) → Leaps (Loaded c.code code) I.Add c (mem w h t o) Left (mem w h t' o)
+  join_left f h o = record { told = ap (λ (u : List ℕ). mem w h u o) (full keeps f).1 }
 
 abbrev moved : Counts → Counts
-moved c = withDepths (withIp (c.depths.ip + 1) c.depths) c
+moved c = with_depths (with_ip (c.depths.ip + 1) c.depths) c
 
 -- A step: the opcode is fetched, and its instruction goes or is left
 module _ {x : Running} (c : Counts) (g : Tables) {w : List ℕ} (i : Inside x c.code g.code) (r : Runs x c.depths w) (l : c.depths.ip < x.shape.size) where
-  step-told : {b : ℕ} (h t o : List ℕ) (m' : Mem) (q : Leap) → b ≡ slice_index g.code (x.shape.at + c.depths.ip) → b < 256
+  step_told : {b : ℕ} (h t o : List ℕ) (m' : Mem) (q : Leap) → b ≡ slice_index g.code (x.shape.at + c.depths.ip) → b < 256
       → Told (Ground x (moved c) g) (I.instruction b) (moved c) (mem w h t o) q m' → StepTold (Ground x c g) c (mem w h t o) q m'
-  step-told h t o m' (Went a k) f n j = (λ s u. Reach.begun c g i r l h t o f n s u ∙ j.0.goes s (record { code = u.code; images = u.images; known = u.known }), j.1, j.2)
-  step-told h t o m' Left f n j = j
+  step_told h t o m' (Went a k) f n j = (λ s u. Reach.begun c g i r l h t o f n s u ∙ j.0.goes s (record { code = u.code; images = u.images; known = u.known }), j.1, j.2)
+  step_told h t o m' Left f n j = j
 
-  pub leap-goes : {b : ℕ} {h t : List ℕ} {e : Counts} {d : Depths} {m' : Mem} {q : Leap} (o : List ℕ) → b ≡ slice_index g.code (x.shape.at + c.depths.ip) → b < 256
-      → d ≡ withIp (c.depths.ip + 1) c.depths → e ≡ withDepths d c → Leaps (Ground x e g) (I.instruction b) e (mem w h t o) q m' → LeapStep (Ground x c g) c (mem w h t o) q m'
-  leap-goes {b} {h} {t} {e} {d} {m'} {q} o f k y z j =
-      let v : e ≡ moved c = z ∙ ap (λ (u : Depths). withDepths u c) y in
+  pub leap_goes : {b : ℕ} {h t : List ℕ} {e : Counts} {d : Depths} {m' : Mem} {q : Leap} (o : List ℕ) → b ≡ slice_index g.code (x.shape.at + c.depths.ip) → b < 256
+      → d ≡ with_ip (c.depths.ip + 1) c.depths → e ≡ with_depths d c → Leaps (Ground x e g) (I.instruction b) e (mem w h t o) q m' → LeapStep (Ground x c g) c (mem w h t o) q m'
+  leap_goes {b} {h} {t} {e} {d} {m'} {q} o f k y z j =
+      let v : e ≡ moved c = z ∙ ap (λ (u : Depths). with_depths u c) y in
       let u : Leaps (Ground x (moved c) g) (I.instruction b) (moved c) (mem w h t o) q m' = subst (λ (a : Counts). Leaps (Ground x a g) (I.instruction b) a (mem w h t o) q m') v j in
-      record { told = step-told h t o m' q f k u.told }
+      record { told = step_told h t o m' q f k u.told }

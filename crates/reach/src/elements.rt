@@ -1,10 +1,10 @@
 //! Elements of arrays, and properties of objects by a number.
 ghost use Rattle.std.specs.Prelude.{◌≡◌, ℕ, ◌+◌, ◌<◌, ◌≤◌, true, List, length};
 ghost use Rattle.machine.specs.Instruction.{LoadIndex, StoreIndex};
-ghost use Rattle.machine.specs.Number.{decimal, formatJsNumber};
+ghost use Rattle.machine.specs.Number.{decimal, format_js_number};
 ghost use Rattle.stacks.specs.View.{Ready};
-ghost use Rattle.texts.specs.Keeps.{textLimit};
-ghost use Rattle.heap.specs.Layout.{propertyLimit, heapWords};
+ghost use Rattle.texts.specs.Keeps.{text_limit};
+ghost use Rattle.heap.specs.Layout.{property_limit, heap_words};
 ghost use Rattle.heap.specs.View.{Sized};
 ghost use Rattle.heap.specs.declared.Found.TheVariants.{At};
 ghost use Rattle.readops.specs.Holds.{Objects};
@@ -12,7 +12,7 @@ ghost use Rattle.heapops.specs.Turns.{mem, Loaded};
 ghost use Rattle.quick.specs.Quickly.{Quickly};
 ghost use Rattle.quick.specs.Stays.{Stays};
 ghost use Rattle.reach.specs.Distinct.{Distinct};
-ghost use Rattle.reach.specs.Reaches.{Reaches, quickIn, Sure};
+ghost use Rattle.reach.specs.Reaches.{Reaches, quick_in, Sure};
 ghost use Rattle.reach.specs.Names.{RowIs};
 ghost use Rattle.reach.specs.Elements.{Accesses, FindsElement, IndexIs, IsBelow, PutsAlone};
 
@@ -98,7 +98,7 @@ fn are_digits(s: &[u8], n: u64) -> bool
 // Is a number's text the key of the row at place k? Nothing is written for it; but where the number is not whole, it is not told.
 fn row_is_element(text: &[u8], m: usize, heap: &[u64], k: usize, id: u64, v: u64) -> bool
     requires { (m ≤ length text.now) × (k + 5 < length heap.now) }
-    ensures { result ≡ true → RowIs text.now m heap.now k id (formatJsNumber v) }
+    ensures { result ≡ true → RowIs text.now m heap.now k id (format_js_number v) }
 {
     let Key::Index(n) = index_of(v) else {
         return false;
@@ -114,7 +114,7 @@ fn row_is_element(text: &[u8], m: usize, heap: &[u64], k: usize, id: u64, v: u64
 
 // The row whose key is a number's text. This and `is_element` are two functions, so that the test of the guess is compiled into the callers.
 fn search_element(text: &[u8], m: usize, heap: &[u64], count: usize, id: u64, v: u64) -> Found
-    requires { (m ≤ length text.now) × (count ≤ propertyLimit) × (length heap.now ≡ heapWords) }
+    requires { (m ≤ length text.now) × (count ≤ property_limit) × (length heap.now ≡ heap_words) }
     ensures { FindsElement text.now m heap.now count id v result }
 {
     let mut buffer = [0; LONGEST_TEXT];
@@ -132,7 +132,7 @@ fn is_element(
     v: u64,
     row: usize,
 ) -> bool
-    requires { (m ≤ length text.now) × (count ≤ propertyLimit) × (length heap.now ≡ heapWords) }
+    requires { (m ≤ length text.now) × (count ≤ property_limit) × (length heap.now ≡ heap_words) }
     ensures { result ≡ true → FindsElement text.now m heap.now count id v (At row) }
 {
     if row < count {
@@ -157,7 +157,7 @@ fn below_length(
     v: u64,
     guess: usize,
 ) -> Alone
-    requires { (m ≤ length text.now) × (count ≤ propertyLimit) × (length heap.now ≡ heapWords) }
+    requires { (m ≤ length text.now) × (count ≤ property_limit) × (length heap.now ≡ heap_words) }
     ensures { IsBelow text.now m heap.now count id v result }
 {
     let Key::Index(e) = index_of(v) else {
@@ -183,7 +183,7 @@ fn puts_alone(
     v: u64,
     guess: usize,
 ) -> Alone
-    requires { (m ≤ length text.now) × (count ≤ propertyLimit) × (length heap.now ≡ heapWords) }
+    requires { (m ≤ length text.now) × (count ≤ property_limit) × (length heap.now ≡ heap_words) }
     ensures { PutsAlone kind text.now m heap.now count id v result }
 {
     match kind {
@@ -197,9 +197,9 @@ fn puts_alone(
 pub fn load_index(c: Counts, guess: usize, stacks: &mut [u64], heap: &[u64], text: &[u8]) -> Reached
     requires ready { Ready c.depths stacks.old }
     requires sized { Sized c.sizes heap.now }
-    requires text_le_text_limit { (c.text ≤ textLimit) × (length text.now ≡ textLimit) }
-    ensures by_index { (code : List ℕ) → c.code ≤ length code → Quickly (Sure (Distinct c.sizes heap.now c.text text.now) (Objects c.code code c.text text.now c.sizes heap.now)) LoadIndex c.depths stacks.old (quickIn result) stacks.new }
-    ensures stays { Stays c.depths stacks.old (quickIn result) stacks.new }
+    requires text_le_text_limit { (c.text ≤ text_limit) × (length text.now ≡ text_limit) }
+    ensures by_index { (code : List ℕ) → c.code ≤ length code → Quickly (Sure (Distinct c.sizes heap.now c.text text.now) (Objects c.code code c.text text.now c.sizes heap.now)) LoadIndex c.depths stacks.old (quick_in result) stacks.new }
+    ensures stays { Stays c.depths stacks.old (quick_in result) stacks.new }
 {
     let d = c.depths;
     let n = d.operands;
@@ -236,9 +236,9 @@ pub fn store_index(
 ) -> Reached
     requires ready { Ready c.depths stacks.now }
     requires sized { Sized c.sizes heap.old }
-    requires text_le_text_limit { (c.text ≤ textLimit) × (length text.now ≡ textLimit) }
-    ensures by_index { (code o : List ℕ) → c.code ≤ length code → Reaches (Sure (Distinct c.sizes heap.old c.text text.now) (Loaded c.code code)) StoreIndex c (mem stacks.now heap.old text.now o) (quickIn result) (mem stacks.now heap.new text.now o) }
-    ensures stays { Stays c.depths stacks.now (quickIn result) stacks.now }
+    requires text_le_text_limit { (c.text ≤ text_limit) × (length text.now ≡ text_limit) }
+    ensures by_index { (code o : List ℕ) → c.code ≤ length code → Reaches (Sure (Distinct c.sizes heap.old c.text text.now) (Loaded c.code code)) StoreIndex c (mem stacks.now heap.old text.now o) (quick_in result) (mem stacks.now heap.new text.now o) }
+    ensures stays { Stays c.depths stacks.now (quick_in result) stacks.now }
 {
     let d = c.depths;
     let n = d.operands;

@@ -1,17 +1,17 @@
 //! What leaves the frame or makes a text: a call of a function that is known, a return, a throw that takes frames off, texts joined.
 ghost use Rattle.std.specs.Prelude.{◌≡◌, ℕ, ◌+◌, ◌<◌, ◌≤◌, ◌||◌, List, length};
-ghost use Rattle.machine.specs.Convert.{isText};
+ghost use Rattle.machine.specs.Convert.{is_text};
 ghost use Rattle.machine.specs.Instruction.{Add, Call, instruction};
 ghost use Rattle.value.specs.Words.{value_of};
 ghost use Rattle.stacks.specs.View.{Ready};
-ghost use Rattle.texts.specs.Keeps.{textLimit};
+ghost use Rattle.texts.specs.Keeps.{text_limit};
 ghost use Rattle.heap.specs.View.{Sized};
 ghost use Rattle.fetch.specs.Running.{Runs};
 ghost use Rattle.readops.specs.Holds.{Callable};
 ghost use Rattle.heapops.specs.Turns.{mem, Loaded};
 ghost use Rattle.finish.specs.Parts.{Ground, tables};
 ghost use Rattle.quick.specs.Quickly.{Quickly, Inside};
-ghost use Rattle.reach.specs.Leaps.{Leaps, LeapStep, leapOf};
+ghost use Rattle.reach.specs.Leaps.{Leaps, LeapStep, leap_of};
 
 use fetch::Running;
 use heap::Registered;
@@ -30,7 +30,7 @@ pub enum Leap {
 }
 
 fn leapt(q: Quick, m: usize) -> Leap
-    ensures { result ≡ leapOf m q }
+    ensures { result ≡ leap_of m q }
 {
     match q {
         Quick::Went(d) => Leap::Went(d, m),
@@ -39,7 +39,7 @@ fn leapt(q: Quick, m: usize) -> Leap
 }
 
 fn is_text(v: Value) -> bool
-    ensures { result ≡ isText (value_of v) }
+    ensures { result ≡ is_text (value_of v) }
 {
     match v {
         Value::Undefined => false,
@@ -54,7 +54,7 @@ fn is_text(v: Value) -> bool
 }
 
 fn has_text(a: Value, b: Value) -> bool
-    ensures { result ≡ isText (value_of a) || isText (value_of b) }
+    ensures { result ≡ is_text (value_of a) || is_text (value_of b) }
 {
     if is_text(a) {
         return true;
@@ -66,7 +66,7 @@ fn has_text(a: Value, b: Value) -> bool
 pub fn join(c: Counts, code: &[u8], stacks: &mut [u64], text: &mut [u8]) -> Leap
     requires ready { Ready c.depths stacks.old }
     requires code_in_bounds { c.code ≤ length code.now }
-    requires text_le_text_limit { (c.text ≤ textLimit) × (length text.old ≡ textLimit) }
+    requires text_le_text_limit { (c.text ≤ text_limit) × (length text.old ≡ text_limit) }
     ensures { (h o : List ℕ) → Leaps (Loaded c.code code.now) Add c (mem stacks.old h text.old o) result (mem stacks.new h text.new o) }
 {
     let d = c.depths;
@@ -142,7 +142,7 @@ fn execute(
     requires runs { Runs x c.depths stacks.old }
     requires inside { Inside x c.code code.now }
     requires sized { Sized c.sizes heap.now }
-    requires text_le_text_limit { (c.text ≤ textLimit) × (length text.old ≡ textLimit) }
+    requires text_le_text_limit { (c.text ≤ text_limit) × (length text.old ≡ text_limit) }
     ensures { (places o : List ℕ) → Leaps (Ground x c (tables code.now places rows.now starts.now)) (instruction op) c (mem stacks.old heap.now text.old o) result (mem stacks.new heap.now text.new o) }
 {
     match op {
@@ -169,7 +169,7 @@ pub fn step(
     requires runs { Runs x c.depths stacks.old }
     requires inside { Inside x c.code code.now }
     requires sized { Sized c.sizes heap.now }
-    requires text_le_text_limit { (c.text ≤ textLimit) × (length text.old ≡ textLimit) }
+    requires text_le_text_limit { (c.text ≤ text_limit) × (length text.old ≡ text_limit) }
     ensures { (places o : List ℕ) → LeapStep (Ground x c (tables code.now places rows.now starts.now)) c (mem stacks.old heap.now text.old o) result (mem stacks.new heap.now text.new o) }
 {
     let d = c.depths;

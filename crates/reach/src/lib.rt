@@ -11,7 +11,7 @@ pub mod stores;
 ghost use Rattle.std.specs.Prelude.{◌≡◌, ℕ, ◌+◌, ◌<◌, ◌≤◌, List, length};
 ghost use Rattle.machine.specs.Instruction.{instruction};
 ghost use Rattle.stacks.specs.View.{Ready};
-ghost use Rattle.texts.specs.Keeps.{textLimit};
+ghost use Rattle.texts.specs.Keeps.{text_limit};
 ghost use Rattle.heap.specs.View.{Sized};
 ghost use Rattle.fetch.specs.Running.{Runs};
 ghost use Rattle.heapops.specs.Turns.{mem};
@@ -19,7 +19,7 @@ ghost use Rattle.finish.specs.Parts.{Ground, tables};
 ghost use Rattle.quick.specs.Quickly.{Inside, Operand};
 ghost use Rattle.quick.specs.Stays.{Stays, InFrame};
 ghost use Rattle.reach.specs.Distinct.{Distinct};
-ghost use Rattle.reach.specs.Reaches.{Reaches, ReachStep, quickIn, Sure};
+ghost use Rattle.reach.specs.Reaches.{Reaches, ReachStep, quick_in, Sure};
 
 use fetch::Running;
 use heapops::{Counts, with_depths};
@@ -35,7 +35,7 @@ pub enum Reached {
 }
 
 pub fn by_row(q: Quick, row: usize) -> Reached
-    ensures { quickIn result ≡ q }
+    ensures { quick_in result ≡ q }
 {
     match q {
         Quick::Went(d) => Reached::Went(d, row),
@@ -61,9 +61,9 @@ fn execute(
     requires operand { Operand x c.code code.now c.depths i }
     requires code_in_bounds { c.code ≤ length code.now }
     requires sized { Sized c.sizes heap.old }
-    requires text_le_text_limit { (c.text ≤ textLimit) × (length text.now ≡ textLimit) }
-    ensures by_index { (rows starts o : List ℕ) → Reaches (Sure (Distinct c.sizes heap.old c.text text.now) (Ground x c (tables code.now places.now rows starts))) (instruction op) c (mem stacks.old heap.old text.now o) (quickIn result) (mem stacks.new heap.new text.now o) }
-    ensures stays { Stays c.depths stacks.old (quickIn result) stacks.new }
+    requires text_le_text_limit { (c.text ≤ text_limit) × (length text.now ≡ text_limit) }
+    ensures by_index { (rows starts o : List ℕ) → Reaches (Sure (Distinct c.sizes heap.old c.text text.now) (Ground x c (tables code.now places.now rows starts))) (instruction op) c (mem stacks.old heap.old text.now o) (quick_in result) (mem stacks.new heap.new text.now o) }
+    ensures stays { Stays c.depths stacks.old (quick_in result) stacks.new }
 {
     match op {
         3 => loads::load_global(x, c, i, guess, code, places, stacks, heap, text),
@@ -92,9 +92,9 @@ pub fn step(
     requires in_frame { InFrame x y c.depths stacks.old }
     requires inside { Inside x c.code code.now }
     requires sized { Sized c.sizes heap.old }
-    requires text_le_text_limit { (c.text ≤ textLimit) × (length text.now ≡ textLimit) }
-    ensures by_index { (rows starts o : List ℕ) → ReachStep (Sure (Distinct c.sizes heap.old c.text text.now) (Ground x c (tables code.now places.now rows starts))) c (mem stacks.old heap.old text.now o) (quickIn result) (mem stacks.new heap.new text.now o) }
-    ensures stays { Stays c.depths stacks.old (quickIn result) stacks.new }
+    requires text_le_text_limit { (c.text ≤ text_limit) × (length text.now ≡ text_limit) }
+    ensures by_index { (rows starts o : List ℕ) → ReachStep (Sure (Distinct c.sizes heap.old c.text text.now) (Ground x c (tables code.now places.now rows starts))) c (mem stacks.old heap.old text.now o) (quick_in result) (mem stacks.new heap.new text.now o) }
+    ensures stays { Stays c.depths stacks.old (quick_in result) stacks.new }
 {
     let d = c.depths;
     let p = d.ip;

@@ -8,7 +8,7 @@ ghost use Rattle.readops.specs.Holds.{Named};
 ghost use Rattle.quick.specs.Quickly.{Quickly, Operand};
 ghost use Rattle.quick.specs.Stays.{Stays};
 ghost use Rattle.reach.specs.Distinct.{Distinct};
-ghost use Rattle.reach.specs.Reaches.{quickIn, Sure};
+ghost use Rattle.reach.specs.Reaches.{quick_in, Sure};
 
 use crate::names::{Name, global_named, name_at, property_named};
 use crate::{Reached, by_row};
@@ -37,8 +37,8 @@ pub fn load_global(
     requires code_in_bounds { c.code ≤ length code.now }
     requires sized { Sized c.sizes heap.now }
     requires text_in_bounds { c.text ≤ length text.now }
-    ensures quickly { Quickly (Sure (Distinct c.sizes heap.now c.text text.now) (Named x c.code code.now places.now c.text text.now c.sizes heap.now)) LoadGlobal c.depths stacks.old (quickIn result) stacks.new }
-    ensures stays { Stays c.depths stacks.old (quickIn result) stacks.new }
+    ensures quickly { Quickly (Sure (Distinct c.sizes heap.now c.text text.now) (Named x c.code code.now places.now c.text text.now c.sizes heap.now)) LoadGlobal c.depths stacks.old (quick_in result) stacks.new }
+    ensures stays { Stays c.depths stacks.old (quick_in result) stacks.new }
 {
     let d = c.depths;
     let e = with_ip(d, d.ip + 2);
@@ -78,8 +78,8 @@ pub fn load_property(
     requires code_in_bounds { c.code ≤ length code.now }
     requires sized { Sized c.sizes heap.now }
     requires text_in_bounds { c.text ≤ length text.now }
-    ensures quickly { Quickly (Sure (Distinct c.sizes heap.now c.text text.now) (Named x c.code code.now places.now c.text text.now c.sizes heap.now)) LoadProperty c.depths stacks.old (quickIn result) stacks.new }
-    ensures stays { Stays c.depths stacks.old (quickIn result) stacks.new }
+    ensures quickly { Quickly (Sure (Distinct c.sizes heap.now c.text text.now) (Named x c.code code.now places.now c.text text.now c.sizes heap.now)) LoadProperty c.depths stacks.old (quick_in result) stacks.new }
+    ensures stays { Stays c.depths stacks.old (quick_in result) stacks.new }
 {
     let d = c.depths;
     let e = with_ip(d, d.ip + 2);

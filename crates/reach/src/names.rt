@@ -3,9 +3,9 @@ ghost use Rattle.std.specs.Prelude.{◌≡◌, ◌+◌, ◌<◌, ◌≤◌, true
 ghost use Rattle.machine.specs.Basic.{same};
 ghost use Rattle.value.specs.Lists.{bytes_of};
 ghost use Rattle.texts.specs.Spans.{named};
-ghost use Rattle.heap.specs.Layout.{propertyLimit, globalLimit, heapWords};
+ghost use Rattle.heap.specs.Layout.{property_limit, global_limit, heap_words};
 ghost use Rattle.heap.specs.Finds.{name_at, pair_at};
-ghost use Rattle.readops.specs.Constants.{constantIn};
+ghost use Rattle.readops.specs.Constants.{constant_in};
 ghost use Rattle.reach.specs.Distinct.{Locates};
 ghost use Rattle.reach.specs.Names.{Names, RowIs};
 
@@ -22,7 +22,7 @@ pub enum Name {
 }
 
 pub fn name_at(x: Running, i: usize, code: &[u8], places: &[u16]) -> Name
-    ensures { Names (constantIn x code.now places.now i) result }
+    ensures { Names (constant_in x code.now places.now i) result }
 {
     let FoundConstant::Is(k) = image::near(code, places, x.shape, i) else {
         return Name::Other;
@@ -60,7 +60,7 @@ pub fn find_property(
     key: &[u8],
     guess: usize,
 ) -> Found
-    requires { (m ≤ length text.now) × (count ≤ propertyLimit) × (length heap.now ≡ heapWords) }
+    requires { (m ≤ length text.now) × (count ≤ property_limit) × (length heap.now ≡ heap_words) }
     ensures { Locates (pair_at (bytes_of text.now m) heap.now owner key.now) count result }
 {
     if guess < count {
@@ -80,7 +80,7 @@ pub fn find_global(
     name: &[u8],
     guess: usize,
 ) -> Found
-    requires { (m ≤ length text.now) × (count ≤ globalLimit) × (length heap.now ≡ heapWords) }
+    requires { (m ≤ length text.now) × (count ≤ global_limit) × (length heap.now ≡ heap_words) }
     ensures { Locates (name_at (bytes_of text.now m) heap.now name.now) count result }
 {
     if guess < count {
@@ -104,7 +104,7 @@ pub fn property_named(
     guess: usize,
 ) -> Found
     requires n_in_bounds { n ≤ length code.now }
-    requires m_in_bounds { (m ≤ length text.now) × (count ≤ propertyLimit) × (length heap.now ≡ heapWords) }
+    requires m_in_bounds { (m ≤ length text.now) × (count ≤ property_limit) × (length heap.now ≡ heap_words) }
     ensures { Locates (pair_at (bytes_of text.now m) heap.now owner (named code.now n at size)) count result }
 {
     let p = texts::locate(at, size, n);
@@ -125,7 +125,7 @@ pub fn global_named(
     guess: usize,
 ) -> Found
     requires n_in_bounds { n ≤ length code.now }
-    requires m_in_bounds { (m ≤ length text.now) × (count ≤ globalLimit) × (length heap.now ≡ heapWords) }
+    requires m_in_bounds { (m ≤ length text.now) × (count ≤ global_limit) × (length heap.now ≡ heap_words) }
     ensures { Locates (name_at (bytes_of text.now m) heap.now (named code.now n at size)) count result }
 {
     let p = texts::locate(at, size, n);

@@ -2,7 +2,7 @@
 ghost use Rattle.std.specs.Prelude.{◌≡◌, ℕ, ◌≤◌, List, length};
 ghost use Rattle.machine.specs.Instruction.{StoreGlobal, StoreProperty};
 ghost use Rattle.stacks.specs.View.{Ready};
-ghost use Rattle.texts.specs.Keeps.{textLimit};
+ghost use Rattle.texts.specs.Keeps.{text_limit};
 ghost use Rattle.heap.specs.View.{Sized};
 ghost use Rattle.fetch.specs.Running.{Runs};
 ghost use Rattle.readops.specs.Holds.{Constants};
@@ -10,7 +10,7 @@ ghost use Rattle.heapops.specs.Turns.{mem};
 ghost use Rattle.quick.specs.Quickly.{Operand};
 ghost use Rattle.quick.specs.Stays.{Stays};
 ghost use Rattle.reach.specs.Distinct.{Distinct};
-ghost use Rattle.reach.specs.Reaches.{Reaches, quickIn, Sure};
+ghost use Rattle.reach.specs.Reaches.{Reaches, quick_in, Sure};
 
 use crate::Reached;
 use crate::names::{Name, global_named, name_at, property_named};
@@ -36,9 +36,9 @@ pub fn store_global(
     requires operand { Operand x c.code code.now c.depths i }
     requires code_in_bounds { c.code ≤ length code.now }
     requires sized { Sized c.sizes heap.old }
-    requires text_le_text_limit { (c.text ≤ textLimit) × (length text.now ≡ textLimit) }
-    ensures by_index { (o : List ℕ) → Reaches (Sure (Distinct c.sizes heap.old c.text text.now) (Constants x c.code code.now places.now)) StoreGlobal c (mem stacks.now heap.old text.now o) (quickIn result) (mem stacks.now heap.new text.now o) }
-    ensures stays { Stays c.depths stacks.now (quickIn result) stacks.now }
+    requires text_le_text_limit { (c.text ≤ text_limit) × (length text.now ≡ text_limit) }
+    ensures by_index { (o : List ℕ) → Reaches (Sure (Distinct c.sizes heap.old c.text text.now) (Constants x c.code code.now places.now)) StoreGlobal c (mem stacks.now heap.old text.now o) (quick_in result) (mem stacks.now heap.new text.now o) }
+    ensures stays { Stays c.depths stacks.now (quick_in result) stacks.now }
 {
     let d = c.depths;
     let e = with_ip(d, d.ip + 2);
@@ -83,9 +83,9 @@ pub fn store_property(
     requires operand { Operand x c.code code.now c.depths i }
     requires code_in_bounds { c.code ≤ length code.now }
     requires sized { Sized c.sizes heap.old }
-    requires text_le_text_limit { (c.text ≤ textLimit) × (length text.now ≡ textLimit) }
-    ensures by_index { (o : List ℕ) → Reaches (Sure (Distinct c.sizes heap.old c.text text.now) (Constants x c.code code.now places.now)) StoreProperty c (mem stacks.now heap.old text.now o) (quickIn result) (mem stacks.now heap.new text.now o) }
-    ensures stays { Stays c.depths stacks.now (quickIn result) stacks.now }
+    requires text_le_text_limit { (c.text ≤ text_limit) × (length text.now ≡ text_limit) }
+    ensures by_index { (o : List ℕ) → Reaches (Sure (Distinct c.sizes heap.old c.text text.now) (Constants x c.code code.now places.now)) StoreProperty c (mem stacks.now heap.old text.now o) (quick_in result) (mem stacks.now heap.new text.now o) }
+    ensures stays { Stays c.depths stacks.now (quick_in result) stacks.now }
 {
     let d = c.depths;
     let e = with_ip(d, d.ip + 2);

@@ -15,8 +15,8 @@ abbrev pub step_of : {A : Type 0} → Read A → Step
 step_of (refused q) = Stop q
 step_of (got a at rest) = Next (record { at = at })
 
-abbrev pub wordFrom : List ℕ → ℕ → Number
-wordFrom s at = number_of (I.word at (drop at s))
+abbrev pub word_from : List ℕ → ℕ → Number
+word_from s at = number_of (I.word at (drop at s))
 
-abbrev pub imageFrom : List ℕ → ℕ → Step
-imageFrom s at = step_of (I.image at (drop at s))
+abbrev pub image_from : List ℕ → ℕ → Step
+image_from s at = step_of (I.image at (drop at s))

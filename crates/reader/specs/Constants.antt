@@ -19,8 +19,8 @@ constant_of Undefined = I.Constant.undefined
 constant_of (Function t) = I.Constant.function t
 
 -- The machine's reader of a number constant.
-abbrev pub numberConstant : Reader I.Constant
-numberConstant = I.wide 8 0 >>= λ n. I.return (I.Constant.number n)
+abbrev pub number_constant : Reader I.Constant
+number_constant = I.wide 8 0 >>= λ n. I.return (I.Constant.number n)
 
 abbrev pub Tells : List ℕ → ℕ → Reader I.Constant → Item → Type 0
 Tells s at r (Is k c) = Reads s at r (constant_of k) c.at

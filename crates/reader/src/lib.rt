@@ -3,11 +3,11 @@
 #![tactic(auto)]
 
 ghost use Rattle.std.specs.Prelude.{◌≡◌, ◌+◌, ◌^◌, ◌≤◌, ◌<◌, length, take, drop};
-ghost use Rattle.machine.specs.Basic.{isAscii};
+ghost use Rattle.machine.specs.Basic.{is_ascii};
 ghost use Rattle.machine.specs.Image as I;
 ghost use Rattle.reader.specs.Says.{Says, Spans, Passes, Headed, Tailed};
-ghost use Rattle.reader.specs.Constants.{numberConstant, Tells, TellsMore};
-ghost use Rattle.reader.specs.Answers.{wordFrom, imageFrom};
+ghost use Rattle.reader.specs.Constants.{number_constant, Tells, TellsMore};
+ghost use Rattle.reader.specs.Answers.{word_from, image_from};
 
 #[derive(Clone, Copy)]
 pub struct Cursor {
@@ -126,7 +126,7 @@ fn span(s: &[u8], c: Cursor, n: usize) -> Step
 // Is each of n bytes below 128?
 fn ascii(s: &[u8], at: usize, n: usize) -> bool
     requires { at + n ≤ length s.now }
-    ensures { result ≡ isAscii (take n (drop at s.now)) }
+    ensures { result ≡ is_ascii (take n (drop at s.now)) }
 {
     let end = at + n;
     let mut i = at;
@@ -142,7 +142,7 @@ fn ascii(s: &[u8], at: usize, n: usize) -> bool
 
 fn fixed(s: &[u8], c: Cursor) -> Item
     requires { c.at ≤ length s.now }
-    ensures { Tells s.now c.at numberConstant result }
+    ensures { Tells s.now c.at number_constant result }
 {
     let Number::Got(n, p) = long(s, c) else {
         return Item::Not(1);
@@ -152,7 +152,7 @@ fn fixed(s: &[u8], c: Cursor) -> Item
 
 fn text(s: &[u8], c: Cursor) -> Item
     requires { c.at ≤ length s.now }
-    ensures { Tells s.now c.at I.textConstant result }
+    ensures { Tells s.now c.at I.text_constant result }
 {
     let Number::Got(n, p) = word(s, c) else {
         return Item::Not(1);
@@ -171,7 +171,7 @@ fn text(s: &[u8], c: Cursor) -> Item
 
 fn boolean(s: &[u8], c: Cursor) -> Item
     requires { c.at ≤ length s.now }
-    ensures { Tells s.now c.at I.booleanConstant result }
+    ensures { Tells s.now c.at I.boolean_constant result }
 {
     let Number::Got(b, p) = byte(s, c) else {
         return Item::Not(1);
@@ -185,7 +185,7 @@ fn boolean(s: &[u8], c: Cursor) -> Item
 
 fn function(s: &[u8], c: Cursor, own: u64, count: u64) -> Item
     requires { c.at ≤ length s.now }
-    ensures { Tells s.now c.at (I.functionConstant own count) result }
+    ensures { Tells s.now c.at (I.function_constant own count) result }
 {
     let Number::Got(t, p) = word(s, c) else {
         return Item::Not(1);
@@ -336,7 +336,7 @@ fn check(s: &[u8], c: Cursor) -> Step
 
 // The work of the reader below, on a slice and a number.
 fn word_at(s: &[u8], at: usize) -> Number
-    ensures { result ≡ wordFrom s.now at }
+    ensures { result ≡ word_from s.now at }
 {
     if s.len() < at {
         return Number::Refused(1);
@@ -345,7 +345,7 @@ fn word_at(s: &[u8], at: usize) -> Number
 }
 
 fn image_at(s: &[u8], at: usize) -> Step
-    ensures { result ≡ imageFrom s.now at }
+    ensures { result ≡ image_from s.now at }
 {
     if s.len() < at {
         return Step::Stop(1);
@@ -368,26 +368,26 @@ impl<'a> Reader<'a> {
     }
 
     fn word(self) -> Number
-        ensures { result ≡ wordFrom self.entry.src.now self.entry.at }
+        ensures { result ≡ word_from self.entry.src.now self.entry.at }
     {
         word_at(self.src, self.at)
     }
 
     fn image(self) -> Step
-        ensures { result ≡ imageFrom self.entry.src.now self.entry.at }
+        ensures { result ≡ image_from self.entry.src.now self.entry.at }
     {
         image_at(self.src, self.at)
     }
 }
 
 pub fn read_word(s: &[u8], at: usize) -> Number
-    ensures { result ≡ wordFrom s.now at }
+    ensures { result ≡ word_from s.now at }
 {
     Reader::new(s, at).word()
 }
 
 pub fn read_image(s: &[u8], at: usize) -> Step
-    ensures { result ≡ imageFrom s.now at }
+    ensures { result ≡ image_from s.now at }
 {
     Reader::new(s, at).image()
 }

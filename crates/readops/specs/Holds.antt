@@ -6,9 +6,9 @@ use Rattle.machine.specs.State as St
 use Rattle.machine.specs.Error as E
 use Rattle.machine.specs.Program.{Program, look, end, failed}
 use Rattle.machine.specs.Instruction as I
-use Rattle.image.specs.View.{imagesOf}
+use Rattle.image.specs.View.{images_of}
 use Rattle.heap.specs.declared.Sizes.{Sizes}
-use Rattle.heap.specs.View.{functionsOf, objectsOf, propertiesOf, globals_of}
+use Rattle.heap.specs.View.{functions_of, objects_of, properties_of, globals_of}
 use Rattle.fetch.specs.declared.Running.{Running}
 use Rattle.fetch.specs.Running.{Coded, Pooled, Texts}
 use Rattle.readops.specs.declared.call.Callee.{Callee}
@@ -22,8 +22,8 @@ pub record Constants (x : Running) (n : ℕ) (code places : List ℕ) (s : St.St
 -- the texts, objects, properties and globals
 pub record Objects (n : ℕ) (code : List ℕ) (m : ℕ) (text : List ℕ) (z : Sizes) (heap : List ℕ) (s : St.State) : Type 0 where
   pub texts : Texts code n text m s
-  pub objects : s.objects ≡ objectsOf heap z.objects
-  pub properties : s.properties ≡ propertiesOf heap z.properties
+  pub objects : s.objects ≡ objects_of heap z.objects
+  pub properties : s.properties ≡ properties_of heap z.properties
   pub globals : s.globals ≡ globals_of heap z.globals
 
 pub record Named (x : Running) (n : ℕ) (code places : List ℕ) (m : ℕ) (text : List ℕ) (z : Sizes) (heap : List ℕ) (s : St.State) : Type 0 where
@@ -32,22 +32,22 @@ pub record Named (x : Running) (n : ℕ) (code places : List ℕ) (m : ℕ) (tex
 
 -- the templates of the images
 pub record Templates (code places rows starts : List ℕ) (images : ℕ) (s : St.State) : Type 0 where
-  pub held : s.images ≡ imagesOf code places rows starts images
+  pub held : s.images ≡ images_of code places rows starts images
 
 -- the functions, and the templates that they name
 pub record Callable (x : Running) (n : ℕ) (code places rows starts : List ℕ) (images : ℕ) (z : Sizes) (heap : List ℕ) (s : St.State) : Type 0 where
   pub coded : Coded x n code s
-  pub functions : s.functions ≡ functionsOf heap z.functions
+  pub functions : s.functions ≡ functions_of heap z.functions
   pub templates : Templates code places rows starts images s
 
 -- a function called, or error 19
 abbrev pub calling : Option St.Function → List M.Value → Program
-calling f args = look λ s. I.callFunction s f args
+calling f args = look λ s. I.call_function s f args
 
 abbrev pub CalleeIs : Callee → M.Value → Type 0
 CalleeIs (Function i) v = v ≡ M.function i
 CalleeIs (Object i) v = v ≡ M.object i
-CalleeIs Other v = (args : List M.Value) → I.call v args ≡ end (failed E.notCallable)
+CalleeIs Other v = (args : List M.Value) → I.call v args ≡ end (failed E.not_callable)
 
 pub record CalleeOf (v : M.Value) (r : Callee) : Type 0 where
   pub is : CalleeIs r v

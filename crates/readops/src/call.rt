@@ -1,9 +1,9 @@
 //! Call of a function; an object, which prints a line, is left to those that change more.
 ghost use Rattle.std.specs.Prelude.{List, ℕ, ◌+◌, ◌≤◌, ◌<◌, length};
 ghost use Rattle.machine.specs.Instruction.{Call};
-ghost use Rattle.machine.specs.State.{operandLimit};
+ghost use Rattle.machine.specs.State.{operand_limit};
 ghost use Rattle.value.specs.Words.{value_of};
-ghost use Rattle.heap.specs.View.{Sized, functionIn};
+ghost use Rattle.heap.specs.View.{Sized, function_in};
 ghost use Rattle.stacks.specs.View.{Ready, arguments};
 ghost use Rattle.outcome.specs.Meets.{Meets};
 ghost use Rattle.fetch.specs.Running.{Runs};
@@ -49,8 +49,8 @@ pub fn call_function(
     stacks: &mut [u64],
 ) -> Stepped
     requires ready { Ready d stacks.old }
-    requires argc_bound { d.operands + 1 + argc ≤ operandLimit }
-    ensures { (code places : List ℕ) → Meets (Templates code places rows.now starts.now images) (calling (functionIn f) (arguments stacks.old (d.operands + 1) argc)) d stacks.old result stacks.new }
+    requires argc_bound { d.operands + 1 + argc ≤ operand_limit }
+    ensures { (code places : List ℕ) → Meets (Templates code places rows.now starts.now images) (calling (function_in f) (arguments stacks.old (d.operands + 1) argc)) d stacks.old result stacks.new }
 {
     match f {
         Registered::Unknown => failed(JsVmError::InvalidFunctionId, d),

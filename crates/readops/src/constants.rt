@@ -1,13 +1,13 @@
 //! Constants that are no functions, names, and the sum of two numbers.
 ghost use Rattle.std.specs.Prelude.{◌≡◌, ◌≤◌, ◌<◌, length};
 ghost use Rattle.std.proofs.Math.ListN.{get_elem?};
-ghost use Rattle.machine.specs.Instruction.{LoadConst, CreateClosure, Add, getStringConstant};
-ghost use Rattle.machine.specs.Convert.{isText};
+ghost use Rattle.machine.specs.Instruction.{LoadConst, CreateClosure, Add, get_string_constant};
+ghost use Rattle.machine.specs.Convert.{is_text};
 ghost use Rattle.value.specs.Words.{value_of};
-ghost use Rattle.machine.specs.NumberText.{longestText};
+ghost use Rattle.machine.specs.NumberText.{longest_text};
 ghost use Rattle.texts.specs.Sources.{InUse};
 ghost use Rattle.texts.specs.Spells.{Spells};
-ghost use Rattle.image.specs.View.{constantsOf};
+ghost use Rattle.image.specs.View.{constants_of};
 ghost use Rattle.stacks.specs.View.{Ready};
 ghost use Rattle.outcome.specs.Meets.{Meets};
 ghost use Rattle.fetch.specs.Running.{Runs, Texts};
@@ -88,8 +88,8 @@ pub fn name(
     i: usize,
     buffer: &mut [u8; LONGEST_TEXT],
 ) -> Source
-    requires { (i < 65536) × (length buffer.old ≡ longestText) }
-    ensures { Spells (λ m. getStringConstant m i (get_elem? (constantsOf code.now places.now x.shape.constants x.shape.constant_count) i)) result buffer.new }
+    requires { (i < 65536) × (length buffer.old ≡ longest_text) }
+    ensures { Spells (λ m. get_string_constant m i (get_elem? (constants_of code.now places.now x.shape.constants x.shape.constant_count) i)) result buffer.new }
 {
     let FoundConstant::Is(k) = image::constant_at(code, places, x.shape, i) else {
         return arrays::element_key(i, buffer);
@@ -105,7 +105,7 @@ pub fn name(
 }
 
 pub fn is_text(v: Value) -> bool
-    ensures { result ≡ isText (value_of v) }
+    ensures { result ≡ is_text (value_of v) }
 {
     match v {
         Value::Undefined => false,

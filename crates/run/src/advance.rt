@@ -1,13 +1,13 @@
 //! The outer step: it takes the machine's counts by reference and advances them. `proceed` has the steps themselves, on counts by value.
 ghost use Rattle.std.specs.Prelude.{◌≡◌, ◌≤◌, ◌<◌, length};
-ghost use Rattle.machine.specs.Run.{maxSteps};
+ghost use Rattle.machine.specs.Run.{max_steps};
 ghost use Rattle.stacks.specs.View.{Ready};
-ghost use Rattle.texts.specs.Keeps.{textLimit, outputLimit};
+ghost use Rattle.texts.specs.Keeps.{text_limit, output_limit};
 ghost use Rattle.heap.specs.View.{Sized};
 ghost use Rattle.fetch.specs.Running.{Runs, Known};
 ghost use Rattle.heapops.specs.Turns.{mem};
 ghost use Rattle.finish.specs.Parts.{tables};
-ghost use Rattle.run.specs.Runs.{Takes, Whole, groundOf};
+ghost use Rattle.run.specs.Runs.{Takes, Whole, ground_of};
 ghost use Rattle.run.specs.Advances.{Advances, progress, advanced};
 
 use crate::speed::{HINTS, speed};
@@ -59,8 +59,8 @@ fn turn(
     requires runs { (c.depths.frames ≡ 0 → ⊥) → Runs x c.depths stacks.old }
     requires code_in_bounds { c.code ≤ length code.now }
     requires sized { Sized c.sizes heap.old }
-    requires text_le_text_limit { (c.text ≤ textLimit) × (length text.old ≡ textLimit) }
-    requires output_le_output_limit { (c.output ≤ outputLimit) × (length output.old ≡ outputLimit) }
+    requires text_le_text_limit { (c.text ≤ text_limit) × (length text.old ≡ text_limit) }
+    requires output_le_output_limit { (c.output ≤ output_limit) × (length output.old ≡ output_limit) }
     ensures { Takes x c (tables code.now places.now rows.now starts.now) (mem stacks.old heap.old text.old output.old) result (mem stacks.new heap.new text.new output.new) }
 {
     let r = dispatch::step(x, c.depths, code, c.code, places, stacks, text, c.text);
@@ -88,9 +88,9 @@ fn proceed(
     output: &mut [u8],
     hints: &mut [usize; HINTS],
 ) -> Advanced
-    requires whole { Whole c (tables code.now places.now rows.now starts.now) (mem stacks.old heap.old text.old output.old) (groundOf c (tables code.now places.now rows.now starts.now)) }
+    requires whole { Whole c (tables code.now places.now rows.now starts.now) (mem stacks.old heap.old text.old output.old) (ground_of c (tables code.now places.now rows.now starts.now)) }
     requires known { Known rows.now starts.now c.images y }
-    requires made_lt_max_steps { made < maxSteps }
+    requires made_lt_max_steps { made < max_steps }
     ensures { Advances c (tables code.now places.now rows.now starts.now) (mem stacks.old heap.old text.old output.old) made result (mem stacks.new heap.new text.new output.new) }
 {
     let q = speed(
@@ -123,9 +123,9 @@ pub fn advance<'c>(
     output: &mut [u8],
     hints: &mut [usize; HINTS],
 ) -> Progress
-    requires whole { Whole c.old (tables code.now places.now rows.now starts.now) (mem stacks.old heap.old text.old output.old) (groundOf c.old (tables code.now places.now rows.now starts.now)) }
+    requires whole { Whole c.old (tables code.now places.now rows.now starts.now) (mem stacks.old heap.old text.old output.old) (ground_of c.old (tables code.now places.now rows.now starts.now)) }
     requires known { Known rows.now starts.now c.old.images x }
-    requires made_lt_max_steps { made < maxSteps }
+    requires made_lt_max_steps { made < max_steps }
     ensures { Advances c.old (tables code.now places.now rows.now starts.now) (mem stacks.old heap.old text.old output.old) made (advanced c.new result) (mem stacks.new heap.new text.new output.new) }
 {
     let next = proceed(
@@ -150,9 +150,9 @@ pub fn advance_copy(
     output: &mut [u8],
     hints: &mut [usize; HINTS],
 ) -> Advanced
-    requires whole { Whole c (tables code.now places.now rows.now starts.now) (mem stacks.old heap.old text.old output.old) (groundOf c (tables code.now places.now rows.now starts.now)) }
+    requires whole { Whole c (tables code.now places.now rows.now starts.now) (mem stacks.old heap.old text.old output.old) (ground_of c (tables code.now places.now rows.now starts.now)) }
     requires known { Known rows.now starts.now c.images x }
-    requires made_lt_max_steps { made < maxSteps }
+    requires made_lt_max_steps { made < max_steps }
     ensures { Advances c (tables code.now places.now rows.now starts.now) (mem stacks.old heap.old text.old output.old) made result (mem stacks.new heap.new text.new output.new) }
 {
     let mut at = c;

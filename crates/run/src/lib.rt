@@ -9,11 +9,11 @@ ghost use Rattle.machine.proofs.Unique.{Unique};
 ghost use Rattle.machine.specs.Run as R;
 ghost use Rattle.machine.specs.Error as E;
 ghost use Rattle.machine.specs.State as St;
-ghost use Rattle.value.specs.Errors.{errorOf, space_of};
+ghost use Rattle.value.specs.Errors.{error_of, space_of};
 ghost use Rattle.value.specs.Words.{value_of};
 ghost use Rattle.heapops.specs.Turns.{mem};
 ghost use Rattle.finish.specs.Parts.{tables};
-ghost use Rattle.run.specs.Runs.{result_of, endingOf, ranTo, atRest, Whole, groundOf, stateIn, ranOf, run_of, Leaves};
+ghost use Rattle.run.specs.Runs.{result_of, ending_of, ran_to, at_rest, Whole, ground_of, state_in, ran_of, run_of, Leaves};
 
 use advance::advance_copy;
 use heapops::{Counts, How, with_depths};
@@ -37,7 +37,7 @@ pub struct Ran {
 
 // Where no frame stands, there is no place in one: 0.
 fn at_rest(c: Counts) -> Counts
-    ensures { result ≡ atRest c }
+    ensures { result ≡ at_rest c }
 {
     let mut d = c.depths;
     if d.frames == 0 {
@@ -48,14 +48,14 @@ fn at_rest(c: Counts) -> Counts
 }
 
 fn ran_to(end: Ending, steps: usize, c: Counts) -> Ran
-    ensures { result ≡ ranTo end steps c }
+    ensures { result ≡ ran_to end steps c }
 {
     let counts = at_rest(c);
     Ran { end, steps, counts }
 }
 
 fn ended_by(e: End) -> Ending
-    ensures { result ≡ endingOf e }
+    ensures { result ≡ ending_of e }
 {
     match e {
         End::Finished(v) => Ending::Finished(v),
@@ -64,7 +64,7 @@ fn ended_by(e: End) -> Ending
 }
 
 pub fn error_number(e: JsVmError) -> u64
-    ensures { result ≡ E.errorNumber (errorOf e) }
+    ensures { result ≡ E.error_number (error_of e) }
 {
     match e {
         JsVmError::ExecutionLimitExceeded => 12,
@@ -96,7 +96,7 @@ pub fn question(q: Space) -> u64
 }
 
 pub fn end_number(e: Ending) -> u64
-    ensures { result ≡ R.endNumber (result_of e) }
+    ensures { result ≡ R.end_number (result_of e) }
 {
     match e {
         Ending::Finished(_) => 0,
@@ -106,7 +106,7 @@ pub fn end_number(e: Ending) -> u64
 }
 
 fn thrown_value(e: JsVmError) -> Value
-    ensures { value_of result ≡ R.thrownValue (errorOf e) }
+    ensures { value_of result ≡ R.thrown_value (error_of e) }
 {
     match e {
         JsVmError::UncaughtException(v) => v,
@@ -122,7 +122,7 @@ fn thrown_value(e: JsVmError) -> Value
 }
 
 pub fn end_value(e: Ending) -> Value
-    ensures { value_of result ≡ R.endValue (result_of e) }
+    ensures { value_of result ≡ R.end_value (result_of e) }
 {
     match e {
         Ending::Finished(v) => v,
@@ -146,10 +146,10 @@ pub fn run_loop(
     text: &mut [u8],
     output: &mut [u8],
 ) -> Ran
-    requires { Whole c (tables code.now places.now rows.now starts.now) (mem stacks.old heap.old text.old output.old) (groundOf c (tables code.now places.now rows.now starts.now)) }
-    ensures output_after { Unique (stateIn c (tables code.now places.now rows.now starts.now) (mem stacks.old heap.old text.old output.old))
-        → ranOf result c (tables code.now places.now rows.now starts.now) (mem stacks.new heap.new text.new output.new)
-        ≡ run_of R.maxSteps 0 (stateIn c (tables code.now places.now rows.now starts.now) (mem stacks.old heap.old text.old output.old)) }
+    requires { Whole c (tables code.now places.now rows.now starts.now) (mem stacks.old heap.old text.old output.old) (ground_of c (tables code.now places.now rows.now starts.now)) }
+    ensures output_after { Unique (state_in c (tables code.now places.now rows.now starts.now) (mem stacks.old heap.old text.old output.old))
+        → ran_of result c (tables code.now places.now rows.now starts.now) (mem stacks.new heap.new text.new output.new)
+        ≡ run_of R.max_steps 0 (state_in c (tables code.now places.now rows.now starts.now) (mem stacks.old heap.old text.old output.old)) }
     ensures leaves { Leaves c result.counts (tables code.now places.now rows.now starts.now) (mem stacks.new heap.new text.new output.new) }
 {
     let mut x = fetch::find(rows, starts, c.images, 0, 0);

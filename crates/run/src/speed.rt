@@ -1,15 +1,15 @@
 //! Quick steps, one after another. A run comes here first, and makes a step of its own only where the next instruction is none of the quick ones.
 ghost use Rattle.std.specs.Prelude.{◌≡◌, true, List, ℕ, ◌+◌, ◌-◌, ◌≤◌, ◌<◌, length};
-ghost use Rattle.machine.specs.Run.{maxSteps};
+ghost use Rattle.machine.specs.Run.{max_steps};
 ghost use Rattle.stacks.specs.View.{Ready};
 ghost use Rattle.fetch.specs.Running.{Known, Current};
 ghost use Rattle.quick.specs.Quickly.{Inside};
 ghost use Rattle.quick.specs.Stays.{InFrame};
 ghost use Rattle.heap.specs.View.{Sized};
-ghost use Rattle.texts.specs.Keeps.{textLimit};
+ghost use Rattle.texts.specs.Keeps.{text_limit};
 ghost use Rattle.finish.specs.Parts.{tables};
-ghost use Rattle.reach.specs.Leaps.{leaptTo};
-ghost use Rattle.run.specs.Speed.{Strides, Speeds, strode, spedTo, stayOf};
+ghost use Rattle.reach.specs.Leaps.{leapt_to};
+ghost use Rattle.run.specs.Speed.{Strides, Speeds, strode, sped_to, stay_of};
 
 use crate::MAX_STEPS;
 use fetch::Running;
@@ -45,7 +45,7 @@ fn strode_to(d: Depths, k: usize) -> Strode
 }
 
 fn sped_to(c: Counts, k: usize) -> Sped
-    ensures { result ≡ spedTo c k }
+    ensures { result ≡ sped_to c k }
 {
     Sped {
         counts: c,
@@ -54,7 +54,7 @@ fn sped_to(c: Counts, k: usize) -> Sped
 }
 
 fn leapt_to(c: Counts, d: Depths, m: usize) -> Counts
-    ensures { result ≡ leaptTo d m c }
+    ensures { result ≡ leapt_to d m c }
 {
     let mut e = c;
     e.depths = d;
@@ -64,7 +64,7 @@ fn leapt_to(c: Counts, d: Depths, m: usize) -> Counts
 
 // The depths f, of which it is known that frames and slots are those of d: so the loop need not carry them.
 fn stay(d: Depths, f: Depths) -> Depths
-    ensures { result ≡ stayOf d f }
+    ensures { result ≡ stay_of d f }
 {
     let mut e = d;
     e.operands = f.operands;
@@ -100,8 +100,8 @@ fn stride(
     requires in_frame { InFrame x y c.depths stacks.old }
     requires inside { Inside x c.code code.now }
     requires sized { Sized c.sizes heap.old }
-    requires text_le_text_limit { (c.text ≤ textLimit) × (length text.now ≡ textLimit) }
-    requires steps_bound { steps < maxSteps - 1 }
+    requires text_le_text_limit { (c.text ≤ text_limit) × (length text.now ≡ text_limit) }
+    requires steps_bound { steps < max_steps - 1 }
     ensures { Strides x y c code.now places.now stacks.old heap.old text.now steps result stacks.new heap.new }
 {
     let mut e = c.depths;
@@ -174,8 +174,8 @@ pub fn speed(
     requires known { Known rows.now starts.now c.images y }
     requires code_in_bounds { c.code ≤ length code.now }
     requires sized { Sized c.sizes heap.old }
-    requires text_le_text_limit { (c.text ≤ textLimit) × (length text.old ≡ textLimit) }
-    requires steps_lt_max_steps { steps < maxSteps }
+    requires text_le_text_limit { (c.text ≤ text_limit) × (length text.old ≡ text_limit) }
+    requires steps_lt_max_steps { steps < max_steps }
     ensures { Speeds c (tables code.now places.now rows.now starts.now) stacks.old heap.old text.old steps result stacks.new heap.new text.new }
 {
     let mut x = y;

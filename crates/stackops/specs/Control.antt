@@ -7,10 +7,10 @@ use Rattle.machine.specs.State as St
 use Rattle.machine.specs.Act as A
 use Rattle.machine.specs.Program as P
 use Rattle.machine.specs.Program.{Program, next, end, look, make}
-use Rattle.machine.specs.Convert.{toBoolean}
+use Rattle.machine.specs.Convert.{to_boolean}
 use Rattle.machine.specs.Instruction as I
-use Rattle.machine.specs.Out.{Out, out, out-look, out-end, out-popHandler, out-unwind}
-use Rattle.value.specs.Lists.{stack-pop, stack-none}
+use Rattle.machine.specs.Out.{Out, out, out_look, out_end, out_pop_handler, out_unwind}
+use Rattle.value.specs.Lists.{stack_pop, stack_none}
 use Rattle.value.specs.Words.{value_of}
 use Rattle.value.specs.declared.JsVmError.{JsVmError}
 use Rattle.value.specs.declared.JsVmError.TheVariants.{UncaughtException}
@@ -23,103 +23,103 @@ use Rattle.stacks.specs.declared.Made.{Made}
 use Rattle.stacks.specs.declared.Made.TheVariants.{Went as Made-as-Went, Failed as Made-as-Failed, Refused as Made-as-Refused}
 use Rattle.stacks.specs.declared.Popped.{Popped}
 use Rattle.stacks.specs.declared.Popped.TheVariants.{Took, Empty}
-use Rattle.stacks.specs.Layout.{handlersAt}
-use Rattle.stacks.specs.Laws.{withIp}
+use Rattle.stacks.specs.Layout.{handlers_at}
+use Rattle.stacks.specs.Laws.{with_ip}
 use Rattle.stacks.specs.View
 use Rattle.convert.specs.Truth.{Truth}
 use Rattle.texts.specs.Sources.{InUse}
-use Rattle.outcome.specs.Meets.{Meets, stepped, underflowOf, Tells, KeptOf, onward, after_look, after-pop, pop-fails, after-gives, goes_on, jumps, fails}
+use Rattle.outcome.specs.Meets.{Meets, stepped, underflow_of, Tells, KeptOf, onward, after_look, after_pop, pop_fails, after_gives, goes_on, jumps, fails}
 use Rattle.outcome.specs.declared.End.TheVariants.{Finished, Failed}
 use Rattle.outcome.specs.declared.Part.TheVariants.{Went, Ended, Refused}
 use Rattle.outcome.specs.declared.Stepped.{Stepped}
-use Rattle.fetch.specs.Running.{Runs, CodedText, FetchesWord, cut_of, after-fetch, fetch-fails, texts-of}
+use Rattle.fetch.specs.Running.{Runs, CodedText, FetchesWord, cut_of, after_fetch, fetch_fails, texts_of}
 use Rattle.fetch.specs.declared.Fetched.{Fetched}
 use Rattle.fetch.specs.declared.Fetched.TheVariants.{Got, Missing}
 use Rattle.fetch.specs.declared.Running.{Running}
-use Rattle.stackops.specs.Values.{stores-of, truth-is}
+use Rattle.stackops.specs.Values.{stores_of_lem, truth_is}
 
 -- THE LAW OF BRANCHES: a jump where f holds of the truth of the newest operand
 abbrev pub on : (Bool → Bool) → ℕ → M.Value → Program
-on f p v = look λ s. I.jumpIf (f (toBoolean (St.bytes s) v)) p
+on f p v = look λ s. I.jump_if (f (to_boolean (St.bytes s) v)) p
 
 abbrev pub branch : (Bool → Bool) → Program
-branch f = I.fetchWord λ p. I.pop (on f p)
+branch f = I.fetch_word λ p. I.pop (on f p)
 
 sensed : (f : Bool → Bool) (p : ℕ) (v : Value) {x : Running} {n m : ℕ} {code text : List ℕ} {t b : Bool} → Truth n m (value_of v) t → InUse code n text m → f t ≡ b
-    → (s : St.State) → CodedText x n code m text s → I.jumpIf (f (toBoolean (St.bytes s) (value_of v))) p ≡ I.jumpIf b p
+    → (s : St.State) → CodedText x n code m text s → I.jump_if (f (to_boolean (St.bytes s) (value_of v))) p ≡ I.jump_if b p
 sensed f p v u z e s h =
-    ap (λ (k : St.Bytes). I.jumpIf (f (toBoolean k (value_of v))) p) (stores-of (texts-of h)) ∙ ap (λ (k : Bool). I.jumpIf (f k) p) (truth-is u refl z)
-    ∙ ap (λ (k : Bool). I.jumpIf k p) e
+    ap (λ (k : St.Bytes). I.jump_if (f (to_boolean k (value_of v))) p) (stores_of_lem (texts_of h)) ∙ ap (λ (k : Bool). I.jump_if (f k) p) (truth_is u refl z)
+    ∙ ap (λ (k : Bool). I.jump_if k p) e
 
 module _ (f : Bool → Bool) {x : Running} {n m : ℕ} {code text : List ℕ} {d : Depths} {w : List ℕ} {r : Fetched} {y : Stepped} (i : FetchesWord x n code d r) (q : Runs x d w) where
-  pub branch-cut : r ≡ Missing → y ≡ cut_of x d → Meets (CodedText x n code m text) (branch f) d w y w
-  branch-cut g e = fetch-fails i (λ p. I.pop (on f p)) (λ s h. h.coded) q g e
+  pub branch_cut : r ≡ Missing → y ≡ cut_of x d → Meets (CodedText x n code m text) (branch f) d w y w
+  branch_cut g e = fetch_fails i (λ p. I.pop (on f p)) (λ s h. h.coded) q g e
 
   module _ {p : ℕ} {e : Depths} {o : Popped} (g : r ≡ Got p e) (l : View.Pops e w o) where
-    pub branch-short : o ≡ Empty → y ≡ underflowOf e → Meets (CodedText x n code m text) (branch f) d w y w
-    branch-short j z = after-fetch i (λ p. I.pop (on f p)) (λ s h. h.coded) q g (pop-fails (on f p) l j z)
+    pub branch_short : o ≡ Empty → y ≡ underflow_of e → Meets (CodedText x n code m text) (branch f) d w y w
+    branch_short j z = after_fetch i (λ p. I.pop (on f p)) (λ s h. h.coded) q g (pop_fails (on f p) l j z)
 
     module _ {v : Value} {c : Depths} {t : Bool} (j : o ≡ Took v c) (u : Truth n m (value_of v) t) (z : InUse code n text m) where
-      after : {b : Bool} → f t ≡ b → Meets (CodedText x n code m text) (I.jumpIf b p) c w y w → Meets (CodedText x n code m text) (branch f) d w y w
-      after e k = after-fetch i (λ p. I.pop (on f p)) (λ s h. h.coded) q g (after-pop (on f p) l j (after_look (sensed f p v u z e) k))
+      after : {b : Bool} → f t ≡ b → Meets (CodedText x n code m text) (I.jump_if b p) c w y w → Meets (CodedText x n code m text) (branch f) d w y w
+      after e k = after_fetch i (λ p. I.pop (on f p)) (λ s h. h.coded) q g (after_pop (on f p) l j (after_look (sensed f p v u z e) k))
 
-      pub branch-goes : {a : Depths} → f t ≡ true → a ≡ withIp p c → y ≡ stepped a Went → Meets (CodedText x n code m text) (branch f) d w y w
-      branch-goes e b k = after e (jumps b k)
+      pub branch_goes : {a : Depths} → f t ≡ true → a ≡ with_ip p c → y ≡ stepped a Went → Meets (CodedText x n code m text) (branch f) d w y w
+      branch_goes e b k = after e (jumps b k)
 
-      pub branch-stays : f t ≡ false → y ≡ stepped c Went → Meets (CodedText x n code m text) (branch f) d w y w
-      branch-stays e k = after e (goes_on k)
+      pub branch_stays : f t ≡ false → y ≡ stepped c Went → Meets (CodedText x n code m text) (branch f) d w y w
+      branch_stays e k = after e (goes_on k)
 
 module _ {H : St.State → Type 0} where
   -- LeaveTry
-  pub leaves : {d r : Depths} {w : List ℕ} {x : Stepped} → View.PopsHandler d r → x ≡ stepped r Went → Meets H (make A.popHandler next) d w x w
-  leaves {d} {w = w} g e = onward (λ s h. out-popHandler (View.onStacks d w s) next ∙ ap (out next) (sym (g.state w s))) refl (goes_on e)
+  pub leaves : {d r : Depths} {w : List ℕ} {x : Stepped} → View.PopsHandler d r → x ≡ stepped r Went → Meets H (make A.pop_handler next) d w x w
+  leaves {d} {w = w} g e = onward (λ s h. out_pop_handler (View.on_stacks d w s) next ∙ ap (out next) (sym (g.state w s))) refl (goes_on e)
 
   -- Halt, and the finish with no frame
-  pub halt-none : {d : Depths} {w : List ℕ} {q : Popped} {x : Stepped} → View.Pops d w q → q ≡ Empty → x ≡ stepped d (Ended (Finished Undefined)) → Meets H I.Halt d w x w
-  halt-none {d} {w} f g e = subst (λ (y : Stepped). Meets H I.Halt d w y w) (sym e) (record {
+  pub halt_none : {d : Depths} {w : List ℕ} {q : Popped} {x : Stepped} → View.Pops d w q → q ≡ Empty → x ≡ stepped d (Ended (Finished Undefined)) → Meets H I.Halt d w x w
+  halt_none {d} {w} f g e = subst (λ (y : Stepped). Meets H I.Halt d w y w) (sym e) (record {
     goes = λ s h.
-        out-look (View.onStacks d w s) (λ s. I.finish s.operands) ∙ ap (λ (o : List M.Value). out (I.finish o) (View.onStacks d w s)) (rw g at f.state)
-        ∙ out-end (View.onStacks d w s) (P.finished M.undefined);
+        out_look (View.on_stacks d w s) (λ s. I.finish s.operands) ∙ ap (λ (o : List M.Value). out (I.finish o) (View.on_stacks d w s)) (rw g at f.state)
+        ∙ out_end (View.on_stacks d w s) (P.finished M.undefined);
     kept = tt;
   })
 
-  pub halt-some : {d e : Depths} {w : List ℕ} {q : Popped} {v : Value} {x : Stepped} → View.Pops d w q → q ≡ Took v e → x ≡ stepped e (Ended (Finished v)) → Meets H I.Halt d w x w
+  pub halt_some : {d e : Depths} {w : List ℕ} {q : Popped} {v : Value} {x : Stepped} → View.Pops d w q → q ≡ Took v e → x ≡ stepped e (Ended (Finished v)) → Meets H I.Halt d w x w
   unfolding out
-  halt-some {d} {w = w} f g e = subst (λ (y : Stepped). Meets H I.Halt d w y w) (sym e) (record {
+  halt_some {d} {w = w} f g e = subst (λ (y : Stepped). Meets H I.Halt d w y w) (sym e) (record {
     goes = λ s h. ap (out I.Halt) ((rw g at f.state) s);
     kept = tt;
   })
 
   -- an act on the stacks that is not the last
   module _ {a : A.Act} {p : Program} {d : Depths} {w w₁ : List ℕ} {r : Made} {x : Stepped} (m : View.Makes a d w r w₁) where
-    pub after-made : {e f : Depths} {w' : List ℕ} → r ≡ Made-as-Went e → x ≡ stepped f Went → Meets H p e w₁ x w' → Meets H (make a p) d w x w'
-    after-made {w' = w'} g z n = record {
-      goes = λ s h. subst (λ (o : Out). Tells x.how x.depths w' s o) (sym (m.goes s p ∙ ap (λ (y : Made). View.madeThen y p d w₁ s) g)) (n.goes s h);
+    pub after_made : {e f : Depths} {w' : List ℕ} → r ≡ Made-as-Went e → x ≡ stepped f Went → Meets H p e w₁ x w' → Meets H (make a p) d w x w'
+    after_made {w' = w'} g z n = record {
+      goes = λ s h. subst (λ (o : Out). Tells x.how x.depths w' s o) (sym (m.goes s p ∙ ap (λ (y : Made). View.made_then y p d w₁ s) g)) (n.goes s h);
       kept = subst (λ (y : Stepped). KeptOf y.how y.depths w w') (sym z) tt;
     }
 
-    pub made-fails : {n : JsVmError} → r ≡ Made-as-Failed n → x ≡ stepped d (Ended (Failed n)) → Meets H (make a p) d w x w₁
-    made-fails g z = subst (λ (y : Stepped). Meets H (make a p) d w y w₁) (sym z) (record { goes = λ s h. m.goes s p ∙ ap (λ (y : Made). View.madeThen y p d w₁ s) g; kept = tt })
+    pub made_fails : {n : JsVmError} → r ≡ Made-as-Failed n → x ≡ stepped d (Ended (Failed n)) → Meets H (make a p) d w x w₁
+    made_fails g z = subst (λ (y : Stepped). Meets H (make a p) d w y w₁) (sym z) (record { goes = λ s h. m.goes s p ∙ ap (λ (y : Made). View.made_then y p d w₁ s) g; kept = tt })
 
-    pub made-refused : {q : Space} → r ≡ Made-as-Refused q → x ≡ stepped d (Refused q) → Meets H (make a p) d w x w₁
-    made-refused g z = subst (λ (y : Stepped). Meets H (make a p) d w y w₁) (sym z) (record {
-      goes = λ s h. m.goes s p ∙ ap (λ (y : Made). View.madeThen y p d w₁ s) g;
+    pub made_refused : {q : Space} → r ≡ Made-as-Refused q → x ≡ stepped d (Refused q) → Meets H (make a p) d w x w₁
+    made_refused g z = subst (λ (y : Stepped). Meets H (make a p) d w y w₁) (sym z) (record {
+      goes = λ s h. m.goes s p ∙ ap (λ (y : Made). View.made_then y p d w₁ s) g;
       kept = rw g at m.ready;
     })
 
   -- Throw
   module _ {d e : Depths} {w : List ℕ} {q : Popped} {v : Value} {x : Stepped} (f : View.Pops d w q) (g : q ≡ Took v e) where
-    thrown : {p : Program} {w' : List ℕ} → I.throw (value_of v) (View.handlersOf w e.handlers) ≡ p → Meets H p e w x w' → Meets H I.Throw d w x w'
-    thrown i m = after-pop (λ v. look λ s. I.throw v s.handlers) f g (after_look (λ s h. i) m)
+    thrown : {p : Program} {w' : List ℕ} → I.throw (value_of v) (View.handlers_of w e.handlers) ≡ p → Meets H p e w x w' → Meets H I.Throw d w x w'
+    thrown i m = after_pop (λ v. look λ s. I.throw v s.handlers) f g (after_look (λ s h. i) m)
 
     pub uncaught : e.handlers ≡ 0 → x ≡ stepped e (Ended (Failed (UncaughtException v))) → Meets H I.Throw d w x w
     uncaught z i =
-        let n : View.handlersOf w e.handlers ≡ [] = ap (View.handlersOf w) z ∙ stack-none (λ i. View.handlerAt w (handlersAt + 3 * i)) in
+        let n : View.handlers_of w e.handlers ≡ [] = ap (View.handlers_of w) z ∙ stack_none (λ i. View.handler_at w (handlers_at + 3 * i)) in
         thrown (ap (I.throw (value_of v)) n) (fails i)
 
-    pub caught : {u : Depths} {w' : List ℕ} (h : Handler) → (e.handlers ≡ 0 → ⊥) → View.handlerOf h ≡ View.handlerAt w (handlersAt + 3 * (e.handlers - 1)) → View.Unwinds e w u
+    pub caught : {u : Depths} {w' : List ℕ} (h : Handler) → (e.handlers ≡ 0 → ⊥) → View.handler_of h ≡ View.handler_at w (handlers_at + 3 * (e.handlers - 1)) → View.Unwinds e w u
         → Meets H (make (A.push (value_of v)) (make (A.jump h.catch) next)) u w x w' → Meets H I.Throw d w x w'
     caught h z i k m =
-        let n : View.handlersOf w e.handlers ≡ View.handlerOf h ∷ View.handlersOf w (e.handlers - 1) =
-        stack-pop (λ i. View.handlerAt w (handlersAt + 3 * i)) e.handlers z ∙ ap (λ (y : St.Handler). y ∷ View.handlersOf w (e.handlers - 1)) (sym i) in
-        thrown (ap (I.throw (value_of v)) n) (after-gives out-unwind k m)
+        let n : View.handlers_of w e.handlers ≡ View.handler_of h ∷ View.handlers_of w (e.handlers - 1) =
+        stack_pop (λ i. View.handler_at w (handlers_at + 3 * i)) e.handlers z ∙ ap (λ (y : St.Handler). y ∷ View.handlers_of w (e.handlers - 1)) (sym i) in
+        thrown (ap (I.throw (value_of v)) n) (after_gives out_unwind k m)

@@ -1,6 +1,6 @@
 -- What a write into one of the stacks does to the state. Assumes nothing.
-use Rattle.stacks.specs.Layout.{handlerLimit, slotsAt, framesAt, handlersAt}
-use Rattle.machine.specs.State.{operandLimit}
+use Rattle.stacks.specs.Layout.{handler_limit, slots_at, frames_at, handlers_at}
+use Rattle.machine.specs.State.{operand_limit}
 use Rattle.std.specs.Prelude.{ℕ, ◌+◌, ◌-◌, ◌*◌, ◌≤◌, ◌<◌, List, [], ◌∷◌, ◌≡◌, refl, drop}
 use Rattle.std.proofs.Common.{arith, sym, ap, ◌∙◌, length-set, lt-ltb, le-ltb, le-leb}
 use Rattle.std.proofs.Math.Option.{none}
@@ -11,13 +11,13 @@ use Rattle.machine.specs.State as St
 use Rattle.machine.specs.Act as A
 use Rattle.machine.specs.Fields as Fi
 use Rattle.machine.specs.Instruction as I
-use Rattle.machine.specs.Out.{out, out-make, out-error, out-refused, Asked}
-use Rattle.machine.specs.Error.{stackOverflow, noCallFrame}
+use Rattle.machine.specs.Out.{out, out_make, out_error, out_refused, Asked}
+use Rattle.machine.specs.Error.{stack_overflow, no_call_frame}
 use Rattle.value.specs.declared.Value.{Value}
 use Rattle.value.specs.declared.JsVmError.TheVariants.{StackOverflow, NoCallFrame}
-use Rattle.value.specs.Words.{value_of, value_at, setValue, value-reads, length-setValue, Holds, holds-set}
-use Rattle.value.specs.Arena.{Same, Apart, apart_below, apart_above, stack-kept, rows-kept, set3, set3-apart, set3-first, set3-second, set3-third}
-use Rattle.value.specs.Lists.{stack-none, stack_push, stack-pop, stack-length, stack-drop}
+use Rattle.value.specs.Words.{value_of, value_at, set_value, value_reads, length_set_value, Holds, holds_set}
+use Rattle.value.specs.Arena.{Same, Apart, apart_below, apart_above, stack_kept, rows_kept, set3, set3_apart, set3_first, set3_second, set3_third}
+use Rattle.value.specs.Lists.{stack_none, stack_push, stack_pop, stack_length, stack_drop}
 use Rattle.stacks.specs.declared.Depths.{Depths}
 use Rattle.stacks.specs.declared.Made.TheVariants.{Went, Failed, Refused}
 use Rattle.stacks.specs.declared.Popped.TheVariants.{Took, Empty}
@@ -25,178 +25,178 @@ use Rattle.value.specs.declared.Space.TheVariants.{Handlers}
 use Rattle.stacks.specs.View
 
 -- a row is read from its own words
-pub frame-reads : (w w' : List ℕ) (k : ℕ) → Same w w' k (k + 5) → View.frame_at w' k ≡ View.frame_at w k
+pub frame_reads : (w w' : List ℕ) (k : ℕ) → Same w w' k (k + 5) → View.frame_at w' k ≡ View.frame_at w k
 unfolding View.frame_at
-frame-reads w w' k a = rw (a k (omega arith) (omega arith), a (k + 1) (omega arith) (omega arith), a (k + 2) (omega arith) (omega arith), a (k + 3) (omega arith) (omega arith), a (k + 4) (omega arith) (omega arith))
+frame_reads w w' k a = rw (a k (omega arith) (omega arith), a (k + 1) (omega arith) (omega arith), a (k + 2) (omega arith) (omega arith), a (k + 3) (omega arith) (omega arith), a (k + 4) (omega arith) (omega arith))
 
-handler-reads : (w w' : List ℕ) (k : ℕ) → Same w w' k (k + 3) → View.handlerAt w' k ≡ View.handlerAt w k
-unfolding View.handlerAt
-handler-reads w w' k a = rw (a k (omega arith) (omega arith), a (k + 1) (omega arith) (omega arith), a (k + 2) (omega arith) (omega arith))
+handler_reads : (w w' : List ℕ) (k : ℕ) → Same w w' k (k + 3) → View.handler_at w' k ≡ View.handler_at w k
+unfolding View.handler_at
+handler_reads w w' k a = rw (a k (omega arith) (omega arith), a (k + 1) (omega arith) (omega arith), a (k + 2) (omega arith) (omega arith))
 
-pub top-length : (p : ℕ) (fs : List St.Frame) → length (St.topAt p fs) ≡ length fs
-top-length p [] = refl
-top-length p (f ∷ fs) = refl
+pub top_length : (p : ℕ) (fs : List St.Frame) → length (St.top_at p fs) ≡ length fs
+top_length p [] = refl
+top_length p (f ∷ fs) = refl
 
 -- what stands in each stack is as it was, where its words are
 module _ (w w' : List ℕ) (n : ℕ) where
-  pub operands-kept : Same w w' 0 (0 + 3 * n) → View.operandsOf w' n ≡ View.operandsOf w n
-  operands-kept = stack-kept value_at 0 3 value-reads w w' n
+  pub operands_kept : Same w w' 0 (0 + 3 * n) → View.operands_of w' n ≡ View.operands_of w n
+  operands_kept = stack_kept value_at 0 3 value_reads w w' n
 
-  pub slots_kept : Same w w' slotsAt (slotsAt + 3 * n) → View.slots_of w' n ≡ View.slots_of w n
-  slots_kept = rows-kept value_at slotsAt 3 value-reads w w' n
+  pub slots_kept : Same w w' slots_at (slots_at + 3 * n) → View.slots_of w' n ≡ View.slots_of w n
+  slots_kept = rows_kept value_at slots_at 3 value_reads w w' n
 
-  pub frames-kept : Same w w' framesAt (framesAt + 5 * n) → View.rows_of w' n ≡ View.rows_of w n
-  frames-kept = stack-kept View.frame_at framesAt 5 frame-reads w w' n
+  pub frames_kept : Same w w' frames_at (frames_at + 5 * n) → View.rows_of w' n ≡ View.rows_of w n
+  frames_kept = stack_kept View.frame_at frames_at 5 frame_reads w w' n
 
-  pub handlers-kept : Same w w' handlersAt (handlersAt + 3 * n) → View.handlersOf w' n ≡ View.handlersOf w n
-  handlers-kept = stack-kept View.handlerAt handlersAt 3 handler-reads w w' n
+  pub handlers_kept : Same w w' handlers_at (handlers_at + 3 * n) → View.handlers_of w' n ≡ View.handlers_of w n
+  handlers_kept = stack_kept View.handler_at handlers_at 3 handler_reads w w' n
 
 abbrev pub with_operands : ℕ → Depths → Depths
 with_operands n d = record { operands = n; slots = d.slots; frames = d.frames; handlers = d.handlers; ip = d.ip }
 
-abbrev pub withHandlers : ℕ → Depths → Depths
-withHandlers n d = record { operands = d.operands; slots = d.slots; frames = d.frames; handlers = n; ip = d.ip }
+abbrev pub with_handlers : ℕ → Depths → Depths
+with_handlers n d = record { operands = d.operands; slots = d.slots; frames = d.frames; handlers = n; ip = d.ip }
 
 -- Operands
 
 module _ (d : Depths) (w : List ℕ) (good : View.Ready d w) where
-  pushed : (v : M.Value) (w' : List ℕ) (s : St.State) → d.operands < operandLimit → Holds w w' (3 * d.operands) v
-      → View.onStacks (with_operands (d.operands + 1) d) w' s ≡ A.apply (A.push v) (View.onStacks d w s)
+  pushed : (v : M.Value) (w' : List ℕ) (s : St.State) → d.operands < operand_limit → Holds w w' (3 * d.operands) v
+      → View.on_stacks (with_operands (d.operands + 1) d) w' s ≡ A.apply (A.push v) (View.on_stacks d w s)
   pushed v w' s h e =
       let n = d.operands in
       let a : Apart w w' (3 * n) (3 * n + 3) = e.apart in
-      let o : View.operandsOf w' n ≡ View.operandsOf w n = operands-kept w w' n (apart_below a 0 (0 + 3 * n) (omega arith)) in
-      let l : View.slots_of w' d.slots ≡ View.slots_of w d.slots = slots_kept w w' d.slots (apart_above a slotsAt (slotsAt + 3 * d.slots) (omega (arith, good.operands))) in
-      let f : View.rows_of w' d.frames ≡ View.rows_of w d.frames = frames-kept w w' d.frames (apart_above a framesAt (framesAt + 5 * d.frames) (omega (arith, good.operands))) in
-      let g : View.handlersOf w' d.handlers ≡ View.handlersOf w d.handlers = handlers-kept w w' d.handlers (apart_above a handlersAt (handlersAt + 3 * d.handlers) (omega (arith, good.operands))) in
+      let o : View.operands_of w' n ≡ View.operands_of w n = operands_kept w w' n (apart_below a 0 (0 + 3 * n) (omega arith)) in
+      let l : View.slots_of w' d.slots ≡ View.slots_of w d.slots = slots_kept w w' d.slots (apart_above a slots_at (slots_at + 3 * d.slots) (omega (arith, good.operands))) in
+      let f : View.rows_of w' d.frames ≡ View.rows_of w d.frames = frames_kept w w' d.frames (apart_above a frames_at (frames_at + 5 * d.frames) (omega (arith, good.operands))) in
+      let g : View.handlers_of w' d.handlers ≡ View.handlers_of w d.handlers = handlers_kept w w' d.handlers (apart_above a handlers_at (handlers_at + 3 * d.handlers) (omega (arith, good.operands))) in
       let z : 0 + 3 * n ≡ 3 * n = omega arith in
       let t : value_at w' (0 + 3 * n) ≡ v = ap (value_at w') z ∙ e.value in
       rw (stack_push (λ i. value_at w' (0 + 3 * i)) n, t, o, l, f, g)
 
   -- the contract of push, each way: v stands on top now
-  pub push-holds : (v : M.Value) (w' : List ℕ) → d.operands < operandLimit → Holds w w' (3 * d.operands) v → length w' ≡ length w
+  pub push_holds : (v : M.Value) (w' : List ℕ) → d.operands < operand_limit → Holds w w' (3 * d.operands) v → length w' ≡ length w
       → View.Makes (A.push v) d w (Went (with_operands (d.operands + 1) d)) w'
-  push-holds v w' h e l = record {
-    goes = λ s p. out-make (View.onStacks d w s) (A.push v) p (rw (stack-length, lt-ltb d.operands operandLimit h)) Asked.all
+  push_holds v w' h e l = record {
+    goes = λ s p. out_make (View.on_stacks d w s) (A.push v) p (rw (stack_length, lt-ltb d.operands operand_limit h)) Asked.all
         ∙ ap (out p) (sym (pushed v w' s h e));
     ready = record { operands = omega arith; slots = good.slots; frames = good.frames; handlers = good.handlers; size = l ∙ good.size };
   }
 
-  pub push-went : (v : Value) (w' : List ℕ) → d.operands < operandLimit → w' ≡ setValue w (3 * d.operands) v
+  pub push_went : (v : Value) (w' : List ℕ) → d.operands < operand_limit → w' ≡ set_value w (3 * d.operands) v
       → View.Makes (A.push (value_of v)) d w (Went (with_operands (d.operands + 1) d)) w'
-  push-went v w' h e =
+  push_went v w' h e =
       let q : 3 * d.operands + 2 < length w = omega (arith, good.size) in
-      push-holds (value_of v) w' h (rw e (holds-set w (3 * d.operands) v q)) (rw e (length-setValue w (3 * d.operands) v))
+      push_holds (value_of v) w' h (rw e (holds_set w (3 * d.operands) v q)) (rw e (length_set_value w (3 * d.operands) v))
 
-  pub push-full : (v : M.Value) → operandLimit ≤ d.operands → View.Makes (A.push v) d w (Failed StackOverflow) w
-  push-full v h = record {
-    goes = λ s p. out-error (View.onStacks d w s) (A.push v) p stackOverflow (rw (stack-length, le-ltb d.operands operandLimit h));
+  pub push_full : (v : M.Value) → operand_limit ≤ d.operands → View.Makes (A.push v) d w (Failed StackOverflow) w
+  push_full v h = record {
+    goes = λ s p. out_error (View.on_stacks d w s) (A.push v) p stack_overflow (rw (stack_length, le-ltb d.operands operand_limit h));
     ready = refl;
   }
 
   -- the contract of pop
-  pub pop-state : (v : M.Value) → (d.operands ≡ 0 → ⊥) → v ≡ value_at w (3 * (d.operands - 1)) → (s : St.State) → View.onStacks d w s ≡ A.apply (A.push v) (View.onStacks (with_operands (d.operands - 1) d) w s)
-  pop-state v h e s =
+  pub pop_state : (v : M.Value) → (d.operands ≡ 0 → ⊥) → v ≡ value_at w (3 * (d.operands - 1)) → (s : St.State) → View.on_stacks d w s ≡ A.apply (A.push v) (View.on_stacks (with_operands (d.operands - 1) d) w s)
+  pop_state v h e s =
       let n = d.operands in
       let z : 0 + 3 * (n - 1) ≡ 3 * (n - 1) = omega arith in
-      let t : View.operandsOf w n ≡ v ∷ View.operandsOf w (n - 1) = stack-pop (λ i. value_at w (0 + 3 * i)) n h ∙ ap (λ (x : M.Value). x ∷ View.operandsOf w (n - 1)) (ap (value_at w) z ∙ sym e) in
-      ap (λ (x : List M.Value). View.under x (View.slots_of w d.slots) (View.framesOf w d.frames d.ip) (View.handlersOf w d.handlers) s) t
+      let t : View.operands_of w n ≡ v ∷ View.operands_of w (n - 1) = stack_pop (λ i. value_at w (0 + 3 * i)) n h ∙ ap (λ (x : M.Value). x ∷ View.operands_of w (n - 1)) (ap (value_at w) z ∙ sym e) in
+      ap (λ (x : List M.Value). View.under x (View.slots_of w d.slots) (View.frames_of w d.frames d.ip) (View.handlers_of w d.handlers) s) t
 
-  pub pop-ready : View.Ready (with_operands (d.operands - 1) d) w
-  pop-ready = record { operands = omega (arith, good.operands); slots = good.slots; frames = good.frames; handlers = good.handlers; size = good.size }
+  pub pop_ready : View.Ready (with_operands (d.operands - 1) d) w
+  pop_ready = record { operands = omega (arith, good.operands); slots = good.slots; frames = good.frames; handlers = good.handlers; size = good.size }
 
-  pub pop-took : (v : Value) → (d.operands ≡ 0 → ⊥) → value_of v ≡ value_at w (3 * (d.operands - 1)) → View.Pops d w (Took v (with_operands (d.operands - 1) d))
-  pop-took v h e = record { state = pop-state (value_of v) h e; ready = pop-ready }
+  pub pop_took : (v : Value) → (d.operands ≡ 0 → ⊥) → value_of v ≡ value_at w (3 * (d.operands - 1)) → View.Pops d w (Took v (with_operands (d.operands - 1) d))
+  pop_took v h e = record { state = pop_state (value_of v) h e; ready = pop_ready }
 
-  pub pop-none : d.operands ≡ 0 → View.Pops d w Empty
-  pop-none e = record { state = rw e (stack-none (λ i. value_at w (0 + 3 * i))); ready = tt }
+  pub pop_none : d.operands ≡ 0 → View.Pops d w Empty
+  pop_none e = record { state = rw e (stack_none (λ i. value_at w (0 + 3 * i))); ready = tt }
 
-  pub top-some : (v : Value) → (d.operands ≡ 0 → ⊥) → value_of v ≡ value_at w (3 * (d.operands - 1)) → value_of v ≡ View.top_of d w
-  top-some v h e =
+  pub top_some : (v : Value) → (d.operands ≡ 0 → ⊥) → value_of v ≡ value_at w (3 * (d.operands - 1)) → value_of v ≡ View.top_of d w
+  top_some v h e =
       let n = d.operands in
       let z : 0 + 3 * (n - 1) ≡ 3 * (n - 1) = omega arith in
-      e ∙ ap (value_at w) (sym z) ∙ sym (ap I.top (stack-pop (λ i. value_at w (0 + 3 * i)) n h))
+      e ∙ ap (value_at w) (sym z) ∙ sym (ap I.top (stack_pop (λ i. value_at w (0 + 3 * i)) n h))
 
-  pub top-none : d.operands ≡ 0 → M.undefined ≡ View.top_of d w
-  top-none e = let z : View.operandsOf w d.operands ≡ [] = rw e (stack-none (λ i. value_at w (0 + 3 * i))) in sym (ap I.top z)
+  pub top_none : d.operands ≡ 0 → M.undefined ≡ View.top_of d w
+  top_none e = let z : View.operands_of w d.operands ≡ [] = rw e (stack_none (λ i. value_at w (0 + 3 * i))) in sym (ap I.top z)
 
   -- Handlers
   abbrev handled : ℕ → List ℕ
-  handled catch = set3 w (handlersAt + 3 * d.handlers) catch d.operands d.frames
+  handled catch = set3 w (handlers_at + 3 * d.handlers) catch d.operands d.frames
 
-  abbrev newHandler : ℕ → St.Handler
-  newHandler catch = record { catch = catch; operands = d.operands; frames = d.frames }
+  abbrev new_handler : ℕ → St.Handler
+  new_handler catch = record { catch = catch; operands = d.operands; frames = d.frames }
 
-  handler-new : (catch : ℕ) → d.handlers < handlerLimit → View.handlerAt (handled catch) (handlersAt + 3 * d.handlers) ≡ newHandler catch
-  unfolding View.handlerAt
-  handler-new catch h =
-      let k = handlersAt + 3 * d.handlers in
+  handler_new : (catch : ℕ) → d.handlers < handler_limit → View.handler_at (handled catch) (handlers_at + 3 * d.handlers) ≡ new_handler catch
+  unfolding View.handler_at
+  handler_new catch h =
+      let k = handlers_at + 3 * d.handlers in
       let l : k + 2 < length w = omega (arith, good.size) in
-      rw (set3-first w k catch d.operands d.frames l, set3-second w k catch d.operands d.frames l, set3-third w k catch d.operands d.frames l)
+      rw (set3_first w k catch d.operands d.frames l, set3_second w k catch d.operands d.frames l, set3_third w k catch d.operands d.frames l)
 
-  with-handler : (catch : ℕ) (s : St.State) → d.handlers < handlerLimit
-      → View.onStacks (withHandlers (d.handlers + 1) d) (handled catch) s ≡ A.apply (A.pushHandler catch) (View.onStacks d w s)
-  with-handler catch s h =
+  with_handler : (catch : ℕ) (s : St.State) → d.handlers < handler_limit
+      → View.on_stacks (with_handlers (d.handlers + 1) d) (handled catch) s ≡ A.apply (A.push_handler catch) (View.on_stacks d w s)
+  with_handler catch s h =
       let n = d.handlers in
       let w' = handled catch in
-      let a : Apart w w' (handlersAt + 3 * n) (handlersAt + 3 * n + 3) = set3-apart w (handlersAt + 3 * n) catch d.operands d.frames in
-      let o : View.operandsOf w' d.operands ≡ View.operandsOf w d.operands = operands-kept w w' d.operands (apart_below a 0 (0 + 3 * d.operands) (omega (arith, good.operands))) in
-      let l : View.slots_of w' d.slots ≡ View.slots_of w d.slots = slots_kept w w' d.slots (apart_below a slotsAt (slotsAt + 3 * d.slots) (omega (arith, good.slots))) in
-      let f : View.rows_of w' d.frames ≡ View.rows_of w d.frames = frames-kept w w' d.frames (apart_below a framesAt (framesAt + 5 * d.frames) (omega (arith, good.frames))) in
-      let g : View.handlersOf w' n ≡ View.handlersOf w n = handlers-kept w w' n (apart_below a handlersAt (handlersAt + 3 * n) (omega arith)) in
-      rw (stack_push (λ i. View.handlerAt w' (handlersAt + 3 * i)) n, handler-new catch h, o, l, f, g, stack-length, top-length, stack-length)
+      let a : Apart w w' (handlers_at + 3 * n) (handlers_at + 3 * n + 3) = set3_apart w (handlers_at + 3 * n) catch d.operands d.frames in
+      let o : View.operands_of w' d.operands ≡ View.operands_of w d.operands = operands_kept w w' d.operands (apart_below a 0 (0 + 3 * d.operands) (omega (arith, good.operands))) in
+      let l : View.slots_of w' d.slots ≡ View.slots_of w d.slots = slots_kept w w' d.slots (apart_below a slots_at (slots_at + 3 * d.slots) (omega (arith, good.slots))) in
+      let f : View.rows_of w' d.frames ≡ View.rows_of w d.frames = frames_kept w w' d.frames (apart_below a frames_at (frames_at + 5 * d.frames) (omega (arith, good.frames))) in
+      let g : View.handlers_of w' n ≡ View.handlers_of w n = handlers_kept w w' n (apart_below a handlers_at (handlers_at + 3 * n) (omega arith)) in
+      rw (stack_push (λ i. View.handler_at w' (handlers_at + 3 * i)) n, handler_new catch h, o, l, f, g, stack_length, top_length, stack_length)
 
-  none_left : (d.frames ≡ 0 → ⊥) → (p : ℕ) → A.or_else noCallFrame (View.framesOf w d.frames p) ≡ none
-  none_left h p = rw (stack-pop (λ i. View.frame_at w (framesAt + 5 * i)) d.frames h)
+  none_left : (d.frames ≡ 0 → ⊥) → (p : ℕ) → A.or_else no_call_frame (View.frames_of w d.frames p) ≡ none
+  none_left h p = rw (stack_pop (λ i. View.frame_at w (frames_at + 5 * i)) d.frames h)
 
-  pub handler-none : (catch : ℕ) → d.frames ≡ 0 → View.Makes (A.pushHandler catch) d w (Failed NoCallFrame) w
-  handler-none catch h = record {
-    goes = λ s p. out-error (View.onStacks d w s) (A.pushHandler catch) p noCallFrame (rw (h, stack-none (λ i. View.frame_at w (framesAt + 5 * i))));
+  pub handler_none : (catch : ℕ) → d.frames ≡ 0 → View.Makes (A.push_handler catch) d w (Failed NoCallFrame) w
+  handler_none catch h = record {
+    goes = λ s p. out_error (View.on_stacks d w s) (A.push_handler catch) p no_call_frame (rw (h, stack_none (λ i. View.frame_at w (frames_at + 5 * i))));
     ready = refl;
   }
 
-  pub handler-full : (catch : ℕ) → (d.frames ≡ 0 → ⊥) → handlerLimit ≤ d.handlers → View.Makes (A.pushHandler catch) d w (Refused Handlers) w
-  handler-full catch f h = record {
-    goes = λ s p. out-refused (View.onStacks d w s) (A.pushHandler catch) p St.handlerStore (none_left f d.ip) (Asked.no (rw (stack-length, lt-leb (d.handlers + 1) handlerLimit (omega arith))));
+  pub handler_full : (catch : ℕ) → (d.frames ≡ 0 → ⊥) → handler_limit ≤ d.handlers → View.Makes (A.push_handler catch) d w (Refused Handlers) w
+  handler_full catch f h = record {
+    goes = λ s p. out_refused (View.on_stacks d w s) (A.push_handler catch) p St.handler_store (none_left f d.ip) (Asked.no (rw (stack_length, lt-leb (d.handlers + 1) handler_limit (omega arith))));
     ready = refl;
   }
 
-  pub handler-went : (catch : ℕ) (w' : List ℕ) → (d.frames ≡ 0 → ⊥) → d.handlers < handlerLimit → w' ≡ handled catch
-      → View.Makes (A.pushHandler catch) d w (Went (withHandlers (d.handlers + 1) d)) w'
-  handler-went catch w' f h e = record {
-    goes = λ s p. out-make (View.onStacks d w s) (A.pushHandler catch) p (none_left f d.ip) (Asked.yes (rw (stack-length, le-leb (d.handlers + 1) handlerLimit (omega arith))) Asked.all)
-        ∙ ap (out p) (sym (ap (λ (x : List ℕ). View.onStacks (withHandlers (d.handlers + 1) d) x s) e ∙ with-handler catch s h));
+  pub handler_went : (catch : ℕ) (w' : List ℕ) → (d.frames ≡ 0 → ⊥) → d.handlers < handler_limit → w' ≡ handled catch
+      → View.Makes (A.push_handler catch) d w (Went (with_handlers (d.handlers + 1) d)) w'
+  handler_went catch w' f h e = record {
+    goes = λ s p. out_make (View.on_stacks d w s) (A.push_handler catch) p (none_left f d.ip) (Asked.yes (rw (stack_length, le-leb (d.handlers + 1) handler_limit (omega arith))) Asked.all)
+        ∙ ap (out p) (sym (ap (λ (x : List ℕ). View.on_stacks (with_handlers (d.handlers + 1) d) x s) e ∙ with_handler catch s h));
     ready = record { operands = good.operands; slots = good.slots; frames = good.frames; handlers = omega arith; size = rw e (simp length-set good.size) };
   }
 
-pub no-handler : (d : Depths) → d.handlers ≡ 0 → View.PopsHandler d d
-no-handler d h = record {
-  state = λ w s. rw (h, stack-none (λ i. View.handlerAt w (handlersAt + 3 * i)));
+pub no_handler : (d : Depths) → d.handlers ≡ 0 → View.PopsHandler d d
+no_handler d h = record {
+  state = λ w s. rw (h, stack_none (λ i. View.handler_at w (handlers_at + 3 * i)));
   ready = λ w r. r;
 }
 
-pub one-handler : (d : Depths) → (d.handlers ≡ 0 → ⊥) → View.PopsHandler d (withHandlers (d.handlers - 1) d)
-one-handler d h = record {
-  state = λ w s. rw (stack-pop (λ i. View.handlerAt w (handlersAt + 3 * i)) d.handlers h);
+pub one_handler : (d : Depths) → (d.handlers ≡ 0 → ⊥) → View.PopsHandler d (with_handlers (d.handlers - 1) d)
+one_handler d h = record {
+  state = λ w s. rw (stack_pop (λ i. View.handler_at w (handlers_at + 3 * i)) d.handlers h);
   ready = λ w r. record { operands = r.operands; slots = r.slots; frames = r.frames; handlers = omega (arith, r.handlers); size = r.size };
 }
 
-abbrev pub withIp : ℕ → Depths → Depths
-withIp p d = record { operands = d.operands; slots = d.slots; frames = d.frames; handlers = d.handlers; ip = p }
+abbrev pub with_ip : ℕ → Depths → Depths
+with_ip p d = record { operands = d.operands; slots = d.slots; frames = d.frames; handlers = d.handlers; ip = p }
 
-top-top : (p q : ℕ) (fs : List St.Frame) → St.topAt p fs ≡ St.topAt p (St.topAt q fs)
-top-top p q [] = refl
-top-top p q (f ∷ fs) = refl
+top_top : (p q : ℕ) (fs : List St.Frame) → St.top_at p fs ≡ St.top_at p (St.top_at q fs)
+top_top p q [] = refl
+top_top p q (f ∷ fs) = refl
 
 -- a jump changes the depths alone
-pub jumped : (d : Depths) (w : List ℕ) (p : ℕ) (s : St.State) → View.onStacks (withIp p d) w s ≡ A.apply (A.jump p) (View.onStacks d w s)
-jumped d w p s = ap (λ (x : List St.Frame). Fi.setFrames x (View.onStacks d w s)) (top-top p d.ip (View.rows_of w d.frames))
+pub jumped : (d : Depths) (w : List ℕ) (p : ℕ) (s : St.State) → View.on_stacks (with_ip p d) w s ≡ A.apply (A.jump p) (View.on_stacks d w s)
+jumped d w p s = ap (λ (x : List St.Frame). Fi.set_frames x (View.on_stacks d w s)) (top_top p d.ip (View.rows_of w d.frames))
 
-pub ready-ip : {d : Depths} {w : List ℕ} (p : ℕ) → View.Ready d w → View.Ready (withIp p d) w
-ready-ip p r = record { operands = r.operands; slots = r.slots; frames = r.frames; handlers = r.handlers; size = r.size }
+pub ready_ip : {d : Depths} {w : List ℕ} (p : ℕ) → View.Ready d w → View.Ready (with_ip p d) w
+ready_ip p r = record { operands = r.operands; slots = r.slots; frames = r.frames; handlers = r.handlers; size = r.size }
 
 pub truncated : (d : Depths) (n m : ℕ) → m ≡ d.operands - n → View.Truncates d n (with_operands m d)
 truncated d n m e = record {
-  state = λ w s. let z : View.operandsOf w m ≡ drop n (View.operandsOf w d.operands) = ap (View.operandsOf w) e ∙ sym (stack-drop (λ i. value_at w (0 + 3 * i)) d.operands n) in rw z;
+  state = λ w s. let z : View.operands_of w m ≡ drop n (View.operands_of w d.operands) = ap (View.operands_of w) e ∙ sym (stack_drop (λ i. value_at w (0 + 3 * i)) d.operands n) in rw z;
   ready = λ w r. record { operands = omega (arith, r.operands); slots = r.slots; frames = r.frames; handlers = r.handlers; size = r.size };
 }

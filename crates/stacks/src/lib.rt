@@ -4,13 +4,13 @@
 
 ghost use Rattle.std.specs.Prelude.{◌≡◌, ℕ, ◌+◌, ◌-◌, ◌*◌, ◌≤◌, ◌<◌, min, max, [], length};
 ghost use Rattle.machine.specs.State.{State};
-ghost use Rattle.machine.specs.Act.{push, pushHandler, store, pushFrame};
+ghost use Rattle.machine.specs.Act.{push, push_handler, store, push_frame};
 ghost use Rattle.value.specs.Words.{value_of, value_at};
-ghost use Rattle.stacks.specs.Layout.{slotLimit, frameLimit, handlerLimit, slotsAt, framesAt, handlersAt, stack_words};
-ghost use Rattle.stacks.specs.View.{onStacks, Ready, Pops, Makes, PopsHandler, Truncates, Keeps, Cuts, handlersOf, savedMore, PendingOver, PopsFrame, Unwinds, frame_at, frame_of, handlerAt, handlerOf, top_of, slot_of, Filled, Puts, Saves, setFrame, above, Copies, Passes, called};
+ghost use Rattle.stacks.specs.Layout.{slot_limit, frame_limit, handler_limit, slots_at, frames_at, handlers_at, stack_words};
+ghost use Rattle.stacks.specs.View.{on_stacks, Ready, Pops, Makes, PopsHandler, Truncates, Keeps, Cuts, handlers_of, saved_more, PendingOver, PopsFrame, Unwinds, frame_at, frame_of, handler_at, handler_of, top_of, slot_of, Filled, Puts, Saves, set_frame, above, Copies, Passes, called};
 ghost use Rattle.stacks.specs.Places.{Stands};
 ghost use Rattle.stacks.specs.declared.Made.TheVariants.{Went};
-ghost use Rattle.machine.specs.State.{operandLimit};
+ghost use Rattle.machine.specs.State.{operand_limit};
 
 use value::{JsVmError, Space, Value};
 
@@ -174,7 +174,7 @@ pub fn read_frame(w: &[u64], k: usize) -> Frame
 
 pub fn read_handler(w: &[u64], k: usize) -> Handler
     requires { k + 2 < length w.now }
-    ensures { handlerOf result ≡ handlerAt w.now k }
+    ensures { handler_of result ≡ handler_at w.now k }
 {
     Handler {
         catch: w[k],
@@ -185,7 +185,7 @@ pub fn read_handler(w: &[u64], k: usize) -> Handler
 
 pub fn push_handler(d: Depths, stacks: &mut [u64], catch: u64) -> Made
     requires { Ready d stacks.old }
-    ensures { Makes (pushHandler catch) d stacks.old result stacks.new }
+    ensures { Makes (push_handler catch) d stacks.old result stacks.new }
 {
     if d.frames == 0 {
         return Made::Failed(JsVmError::NoCallFrame);
@@ -233,7 +233,7 @@ pub fn end_of(n: usize, base: u64, count: u64) -> usize
 // Only the lowest k frames stand, with their slots; the newest goes on at p.
 pub fn keep_frames(d: Depths, k: usize, p: usize, stacks: &[u64]) -> Depths
     requires ready { Ready d stacks.now }
-    requires k_le_frame_limit { k ≤ frameLimit }
+    requires k_le_frame_limit { k ≤ frame_limit }
     ensures { Keeps d k p stacks.now result }
 {
     let mut e = d;
@@ -285,8 +285,8 @@ pub fn greater(a: usize, b: usize) -> usize
 
 // Did the newest of n handlers save more than k frames?
 pub fn saved_more(n: usize, k: usize, stacks: &[u64]) -> bool
-    requires { (n ≤ handlerLimit) × (length stacks.now ≡ stack_words) }
-    ensures { result ≡ savedMore k (handlersOf stacks.now n) }
+    requires { (n ≤ handler_limit) × (length stacks.now ≡ stack_words) }
+    ensures { result ≡ saved_more k (handlers_of stacks.now n) }
 {
     if n == 0 {
         return false;
@@ -297,7 +297,7 @@ pub fn saved_more(n: usize, k: usize, stacks: &[u64]) -> bool
 
 // How many of n handlers are left over k frames: the newest go, as long as they saved more.
 pub fn pending_over(n: usize, k: usize, stacks: &[u64]) -> usize
-    requires { (n ≤ handlerLimit) × (length stacks.now ≡ stack_words) }
+    requires { (n ≤ handler_limit) × (length stacks.now ≡ stack_words) }
     ensures { PendingOver n k stacks.now result }
 {
     let mut m = n;
@@ -322,7 +322,7 @@ pub fn pop_frame(d: Depths, stacks: &[u64]) -> Depths
 pub fn unwind(d: Depths, h: Handler, stacks: &[u64]) -> Depths
     requires ready { Ready d stacks.now }
     requires fact { d.handlers ≡ 0 → ⊥ }
-    requires h_value { handlerOf h ≡ handlerAt stacks.now (handlersAt + 3 * (d.handlers - 1)) }
+    requires h_value { handler_of h ≡ handler_at stacks.now (handlers_at + 3 * (d.handlers - 1)) }
     ensures { Unwinds d stacks.now result }
 {
     let mut e = d;
@@ -377,7 +377,7 @@ pub fn lacking(i: usize, count: u64) -> usize
 
 // Undefined into the slots from a place to another.
 pub fn fill(w: &mut [u64], from: usize, to: usize)
-    requires { (from ≤ to) × (to ≤ slotLimit) × (length w.old ≡ stack_words) }
+    requires { (from ≤ to) × (to ≤ slot_limit) × (length w.old ≡ stack_words) }
     ensures { Filled w.old w.new from to }
 {
     let mut i = from;
@@ -389,7 +389,7 @@ pub fn fill(w: &mut [u64], from: usize, to: usize)
 
 // v into slot base + i of n, if it is there.
 pub fn put(w: &mut [u64], n: usize, base: u64, i: usize, v: Value)
-    requires { (n ≤ slotLimit) × (length w.old ≡ stack_words) }
+    requires { (n ≤ slot_limit) × (length w.old ≡ stack_words) }
     ensures { Puts w.old w.new n (base + i) (value_of v) }
 {
     if n <= i {
@@ -441,7 +441,7 @@ pub fn save_ip(d: Depths, stacks: &mut [u64])
 
 pub fn write_frame(w: &mut [u64], k: usize, f: Frame)
     requires { k + 4 < length w.old }
-    ensures { w.new ≡ setFrame w.old k f }
+    ensures { w.new ≡ set_frame w.old k f }
 {
     w[k] = f.image;
     w[k + 1] = f.template;
@@ -453,8 +453,8 @@ pub fn write_frame(w: &mut [u64], k: usize, f: Frame)
 // A frame for a template of an image, with the `count` values above the slots as its own. There is room for it.
 fn add_frame(d: Depths, stacks: &mut [u64], image: u64, template: u64, count: usize) -> Depths
     requires ready { Ready d stacks.old }
-    requires frames_lt_frame_limit { (d.frames < frameLimit) × (count ≤ slotLimit - d.slots) }
-    ensures { Makes (pushFrame image template (above stacks.old d.slots count)) d stacks.old (Went result) stacks.new }
+    requires frames_lt_frame_limit { (d.frames < frame_limit) × (count ≤ slot_limit - d.slots) }
+    ensures { Makes (push_frame image template (above stacks.old d.slots count)) d stacks.old (Went result) stacks.new }
 {
     let k = d.frames;
     let n = d.slots;
@@ -480,7 +480,7 @@ fn add_frame(d: Depths, stacks: &mut [u64], image: u64, template: u64, count: us
 // A run's own frame: it has no slots.
 pub fn push_frame(d: Depths, stacks: &mut [u64], image: u64, template: u64) -> Made
     requires { Ready d stacks.old }
-    ensures { Makes (pushFrame image template []) d stacks.old result stacks.new }
+    ensures { Makes (push_frame image template []) d stacks.old result stacks.new }
 {
     if FRAME_LIMIT <= d.frames {
         return Made::Refused(Space::Frames);
@@ -490,7 +490,7 @@ pub fn push_frame(d: Depths, stacks: &mut [u64], image: u64, template: u64) -> M
 
 // `count` operands from number `from` on, into the slots from number `to` on.
 fn copy_arguments(w: &mut [u64], from: usize, to: usize, count: usize)
-    requires { (from + count ≤ operandLimit) × (to + count ≤ slotLimit) × (length w.old ≡ stack_words) }
+    requires { (from + count ≤ operand_limit) × (to + count ≤ slot_limit) × (length w.old ≡ stack_words) }
     ensures { Copies w.old w.new from to count }
 {
     let mut i: usize = 0;
@@ -503,7 +503,7 @@ fn copy_arguments(w: &mut [u64], from: usize, to: usize, count: usize)
 
 // The slots of a called function, laid from slot n on: its arguments are the `argc` operands from number `from` on.
 fn pass_arguments(w: &mut [u64], from: usize, argc: usize, n: usize, params: usize, locals: usize)
-    requires { (from + argc ≤ operandLimit) × (n + max params locals ≤ slotLimit) × (length w.old ≡ stack_words) }
+    requires { (from + argc ≤ operand_limit) × (n + max params locals ≤ slot_limit) × (length w.old ≡ stack_words) }
     ensures { Passes w.old w.new from argc n params locals }
 {
     let m = lesser(argc, params);
@@ -523,8 +523,8 @@ pub fn call_frame(
     locals: usize,
 ) -> Made
     requires ready { Ready d stacks.old }
-    requires argc_bound { d.operands + 1 + argc ≤ operandLimit }
-    ensures { Makes (pushFrame image template (called stacks.old (d.operands + 1) argc params locals)) d stacks.old result stacks.new }
+    requires argc_bound { d.operands + 1 + argc ≤ operand_limit }
+    ensures { Makes (push_frame image template (called stacks.old (d.operands + 1) argc params locals)) d stacks.old result stacks.new }
 {
     if FRAME_LIMIT <= d.frames {
         return Made::Refused(Space::Frames);

@@ -1,8 +1,8 @@
 //! The bench sheet's rows on keys and arrays.
 ghost use Rattle.std.specs.Prelude.{◌≡◌, ◌≤◌, length};
 ghost use Rattle.stacks.specs.Layout.{stack_words};
-ghost use Rattle.texts.specs.Keeps.{textLimit};
-ghost use Rattle.heap.specs.Layout.{heapWords};
+ghost use Rattle.texts.specs.Keeps.{text_limit};
+ghost use Rattle.heap.specs.Layout.{heap_words};
 ghost use Rattle.heap.specs.View.{Sized};
 
 use crate::stack_rows;
@@ -32,7 +32,7 @@ fn bits(z: Sizes, heap: &[u64], text: &[u8], m: usize, key: &[u8]) -> u64
 
 // The length of an empty array, as raw bits, after a store under a key.
 fn length_after(heap: &mut [u64], text: &mut [u8], stacks: &[u64], key: &[u8]) -> u64
-    requires { (length heap.old ≡ heapWords) × (length text.old ≡ textLimit) × (length stacks.now ≡ stack_words) }
+    requires { (length heap.old ≡ heap_words) × (length text.old ≡ text_limit) × (length stacks.now ≡ stack_words) }
 {
     let z = heap::clear(heap);
     let Placed::Went(y, m) = arrays::add_array(z, heap, text, 0, stacks, 0, 0, 0) else {
@@ -63,7 +63,7 @@ fn all(a: bool, b: bool, c: bool, d: bool) -> bool {
 
 // CreateArray 3 over one operand, the number 5: that one, and Undefined twice.
 fn three_of_one(heap: &mut [u64], text: &mut [u8], stacks: &mut [u64]) -> bool
-    requires { (length heap.old ≡ heapWords) × (length text.old ≡ textLimit) × (length stacks.old ≡ stack_words) }
+    requires { (length heap.old ≡ heap_words) × (length text.old ≡ text_limit) × (length stacks.old ≡ stack_words) }
 {
     stack_rows::one(stacks, 5);
     let z = heap::clear(heap);
@@ -79,7 +79,7 @@ fn three_of_one(heap: &mut [u64], text: &mut [u8], stacks: &mut [u64]) -> bool
 
 // CreateObject at 1,024 operands: the push is 16, and the object stays.
 fn object_stays(heap: &mut [u64], stacks: &mut [u64]) -> bool
-    requires { (length heap.old ≡ heapWords) × (length stacks.old ≡ stack_words) }
+    requires { (length heap.old ≡ heap_words) × (length stacks.old ≡ stack_words) }
 {
     let z = heap::clear(heap);
     let Grown::Went(y) = heap::add_object(z, heap) else {
@@ -90,7 +90,7 @@ fn object_stays(heap: &mut [u64], stacks: &mut [u64]) -> bool
 
 /// How many rows differ, of ROWS.
 pub fn differing(heap: &mut [u64], text: &mut [u8], stacks: &mut [u64]) -> u64
-    requires { (length heap.old ≡ heapWords) × (length text.old ≡ textLimit) × (length stacks.old ≡ stack_words) }
+    requires { (length heap.old ≡ heap_words) × (length text.old ≡ text_limit) × (length stacks.old ≡ stack_words) }
 {
     let a = stack_rows::counted(length_after(heap, text, stacks, b"+5") == 6 * ONE);
     let b = stack_rows::counted(length_after(heap, text, stacks, b"4294967296") == ONE);

@@ -1,4 +1,4 @@
--- Bytes put after those that a store has in use: the machine's acts `keepText` and `print`. Assumes nothing.
+-- Bytes put after those that a store has in use: the machine's acts `keep_text` and `print`. Assumes nothing.
 use Rattle.std.specs.Prelude.{ℕ, ◌+◌, ◌-◌, ◌≤◌, ◌<◌, List, [], ◌∷◌, ◌++◌, leb, ◌≡◌, refl, length, get_or}
 use Rattle.std.proofs.Common.{arith, sym, ap, ◌∙◌, length-append, le-leb}
 use Rattle.std.proofs.Math.Option.{Option, none, some}
@@ -7,18 +7,18 @@ use Rattle.machine.specs.State as St
 use Rattle.machine.specs.Act as A
 use Rattle.machine.specs.Fields as S
 use Rattle.machine.specs.Program.{Program, make}
-use Rattle.machine.specs.Out.{Out, refused, out, out-make, out-refused, Asked}
-use Rattle.value.specs.Lists.{bytes_of, row-length}
-use Rattle.texts.specs.Overwrite.{overwrite, overwrite-bytes, overwrite-length, overwrite-under, overwrite-more}
+use Rattle.machine.specs.Out.{Out, refused, out, out_make, out_refused, Asked}
+use Rattle.value.specs.Lists.{bytes_of, row_length}
+use Rattle.texts.specs.Overwrite.{overwrite, overwrite_bytes, overwrite_length, overwrite_under, overwrite_more}
 use Rattle.texts.specs.Sources.{stores_of}
 use Rattle.texts.specs.declared.Kept.{Kept}
 use Rattle.texts.specs.declared.Kept.TheVariants.{Went, Refused}
 
-abbrev pub textLimit : ℕ
-textLimit = St.limit St.textStore
+abbrev pub text_limit : ℕ
+text_limit = St.limit St.text_store
 
-abbrev pub outputLimit : ℕ
-outputLimit = St.limit St.outputStore
+abbrev pub output_limit : ℕ
+output_limit = St.limit St.output_store
 
 abbrev pub AppendsTold : ℕ → List ℕ → ℕ → List ℕ → Kept → List ℕ → Type 0
 AppendsTold limit bs n t (Went k) t' = (k ≡ n + length bs) × (k ≤ limit) × (t' ≡ overwrite t n bs)
@@ -30,23 +30,23 @@ pub record Appends (limit : ℕ) (bs : List ℕ) (n : ℕ) (t : List ℕ) (r : K
 
 -- of the text store, and of the output, which has lines
 abbrev pub Keeps : List ℕ → ℕ → List ℕ → Kept → List ℕ → Type 0
-Keeps bs n t r t' = Appends textLimit bs n t r t'
+Keeps bs n t r t' = Appends text_limit bs n t r t'
 
 abbrev pub Prints : List ℕ → ℕ → List ℕ → Kept → List ℕ → Type 0
-Prints bs n t r t' = Appends outputLimit (A.line bs) n t r t'
+Prints bs n t r t' = Appends output_limit (A.line bs) n t r t'
 
 module _ (limit : ℕ) (n : ℕ) (t bs : List ℕ) (k : ℕ) (e : k ≡ length bs) (h : n ≤ limit) where
-  pub appends-full : limit - n < k → Appends limit bs n t Refused t
-  appends-full g = record { told = (omega arith, refl) }
+  pub appends_full : limit - n < k → Appends limit bs n t Refused t
+  appends_full g = record { told = (omega arith, refl) }
 
-  pub appends-went : (t' : List ℕ) → k ≤ limit - n → t' ≡ overwrite t n bs → Appends limit bs n t (Went (n + k)) t'
-  appends-went t' g q = record { told = (ap (λ (x : ℕ). n + x) e, omega arith, q) }
+  pub appends_went : (t' : List ℕ) → k ≤ limit - n → t' ≡ overwrite t n bs → Appends limit bs n t (Went (n + k)) t'
+  appends_went t' g q = record { told = (ap (λ (x : ℕ). n + x) e, omega arith, q) }
 
-pub went-as : {limit : ℕ} {bs : List ℕ} {n i j : ℕ} {t t' : List ℕ} → i ≡ j → Appends limit bs n t (Went i) t' → Appends limit bs n t (Went j) t'
-went-as e q = rw e at q
+pub went_as : {limit : ℕ} {bs : List ℕ} {n i j : ℕ} {t t' : List ℕ} → i ≡ j → Appends limit bs n t (Went i) t' → Appends limit bs n t (Went j) t'
+went_as e q = rw e at q
 
-pub keeps-as : {limit : ℕ} {bs cs : List ℕ} {n : ℕ} {t : List ℕ} {r : Kept} {t' : List ℕ} → bs ≡ cs → Appends limit bs n t r t' → Appends limit cs n t r t'
-keeps-as e q = rw e at q
+pub keeps_as : {limit : ℕ} {bs cs : List ℕ} {n : ℕ} {t : List ℕ} {r : Kept} {t' : List ℕ} → bs ≡ cs → Appends limit bs n t r t' → Appends limit cs n t r t'
+keeps_as e q = rw e at q
 
 -- the answer taken apart
 module _ {limit : ℕ} {bs : List ℕ} {n : ℕ} {t : List ℕ} {r : Kept} {t' : List ℕ} (q : Appends limit bs n t r t') where
@@ -56,22 +56,22 @@ module _ {limit : ℕ} {bs : List ℕ} {n : ℕ} {t : List ℕ} {r : Kept} {t' :
   pub full : r ≡ Refused → (limit < n + length bs) × (t' ≡ t)
   full e = let x : AppendsTold limit bs n t Refused t' = rw e at q.told in x
 
-  pub appended-bytes : {k : ℕ} → length t ≡ limit → r ≡ Went k → bytes_of t' k ≡ bytes_of t n ++ bs
-  appended-bytes {k} l e =
+  pub appended_bytes : {k : ℕ} → length t ≡ limit → r ≡ Went k → bytes_of t' k ≡ bytes_of t n ++ bs
+  appended_bytes {k} l e =
       let x = appended e in
-      ap (λ (y : List ℕ). bytes_of y k) x.2 ∙ ap (λ (y : ℕ). bytes_of (overwrite t n bs) y) x.0 ∙ overwrite-bytes t n bs (omega (arith, x.0, x.1))
+      ap (λ (y : List ℕ). bytes_of y k) x.2 ∙ ap (λ (y : ℕ). bytes_of (overwrite t n bs) y) x.0 ∙ overwrite_bytes t n bs (omega (arith, x.0, x.1))
 
 -- a state whose texts, or whose output, are the first n bytes of t
-abbrev pub onText : ℕ → List ℕ → St.State → St.State
-onText n t s = S.setText (bytes_of t n) s
+abbrev pub on_text : ℕ → List ℕ → St.State → St.State
+on_text n t s = S.set_text (bytes_of t n) s
 
-abbrev pub onOutput : ℕ → List ℕ → St.State → St.State
-onOutput n t s = S.setOutput (bytes_of t n) s
+abbrev pub on_output : ℕ → List ℕ → St.State → St.State
+on_output n t s = S.set_output (bytes_of t n) s
 
 -- what a program comes to that goes on from the state that an answer stands for
-abbrev pub keptThen : St.Store → Kept → Program → (ℕ → St.State) → Out
-keptThen q (Went k) p s = out p (s k)
-keptThen q Refused p s = refused q
+abbrev pub kept_then : St.Store → Kept → Program → (ℕ → St.State) → Out
+kept_then q (Went k) p s = out p (s k)
+kept_then q Refused p s = refused q
 
 -- THE LAW OF KEEPING: an act that puts bs behind what a store q has, and asks nothing else, is made by what appends them to the bytes of q. `put x` is a
 -- state with the bytes x in q.
@@ -79,33 +79,33 @@ module _
     (a : A.Act) (q : St.Store) (bs : List ℕ) (put : List ℕ → St.State) (sound : (x : List ℕ) → A.error a (put x) ≡ none)
     (asks : (x : List ℕ) → A.needs a (put x) ≡ A.need q (length bs) ∷ []) (uses : (x : List ℕ) → St.used (put x) q ≡ length x)
     (leaves : (x : List ℕ) → A.apply a (put x) ≡ put (x ++ bs)) (n : ℕ) (t t' : List ℕ) (l : length t ≡ St.limit q) (p : Program) where
-  used-by : St.used (put (bytes_of t n)) q ≡ n
-  used-by = uses (bytes_of t n) ∙ row-length n (λ i. get_or t i 0)
+  used_by : St.used (put (bytes_of t n)) q ≡ n
+  used_by = uses (bytes_of t n) ∙ row_length n (λ i. get_or t i 0)
 
   asked : (o : Option St.Store) → Asked (put (bytes_of t n)) (A.need q (length bs) ∷ []) o → Asked (put (bytes_of t n)) (A.needs a (put (bytes_of t n))) o
   asked o h = rw (asks (bytes_of t n)) h
 
-  appends-act : (r : Kept) → Appends (St.limit q) bs n t r t' → out (make a p) (put (bytes_of t n)) ≡ keptThen q r p (λ k. put (bytes_of t' k))
-  appends-act (Went k) x =
-      let fits = ap (λ (u : ℕ). leb (u + length bs) (St.limit q)) used-by ∙ le-leb (n + length bs) (St.limit q) (omega (arith, x.told.0, x.told.1)) in
-      out-make (put (bytes_of t n)) a p (sound (bytes_of t n)) (asked none (Asked.yes fits Asked.all))
-      ∙ ap (out p) (leaves (bytes_of t n)) ∙ ap (λ (y : List ℕ). out p (put y)) (sym (appended-bytes x l refl))
-  appends-act Refused x =
-      let short = ap (λ (u : ℕ). leb (u + length bs) (St.limit q)) used-by ∙ lt-leb (n + length bs) (St.limit q) x.told.0 in
-      out-refused (put (bytes_of t n)) a p q (sound (bytes_of t n)) (asked (some q) (Asked.no short))
+  appends_act : (r : Kept) → Appends (St.limit q) bs n t r t' → out (make a p) (put (bytes_of t n)) ≡ kept_then q r p (λ k. put (bytes_of t' k))
+  appends_act (Went k) x =
+      let fits = ap (λ (u : ℕ). leb (u + length bs) (St.limit q)) used_by ∙ le-leb (n + length bs) (St.limit q) (omega (arith, x.told.0, x.told.1)) in
+      out_make (put (bytes_of t n)) a p (sound (bytes_of t n)) (asked none (Asked.yes fits Asked.all))
+      ∙ ap (out p) (leaves (bytes_of t n)) ∙ ap (λ (y : List ℕ). out p (put y)) (sym (appended_bytes x l refl))
+  appends_act Refused x =
+      let short = ap (λ (u : ℕ). leb (u + length bs) (St.limit q)) used_by ∙ lt-leb (n + length bs) (St.limit q) x.told.0 in
+      out_refused (put (bytes_of t n)) a p q (sound (bytes_of t n)) (asked (some q) (Asked.no short))
 
 module _ (bs : List ℕ) (n : ℕ) (t : List ℕ) (r : Kept) (t' : List ℕ) (s : St.State) (p : Program) where
-  pub keeps-act : length t ≡ textLimit → Keeps bs n t r t' → out (make (A.keepText bs) p) (onText n t s) ≡ keptThen St.textStore r p (λ k. onText k t' s)
-  keeps-act l x =
-      appends-act (A.keepText bs) St.textStore bs (λ y. S.setText y s) (λ y. refl) (λ y. refl) (λ y. refl) (λ y. refl) n t t' l p r x
+  pub keeps_act : length t ≡ text_limit → Keeps bs n t r t' → out (make (A.keep_text bs) p) (on_text n t s) ≡ kept_then St.text_store r p (λ k. on_text k t' s)
+  keeps_act l x =
+      appends_act (A.keep_text bs) St.text_store bs (λ y. S.set_text y s) (λ y. refl) (λ y. refl) (λ y. refl) (λ y. refl) n t t' l p r x
 
-  pub prints-act : length t ≡ outputLimit → Prints bs n t r t' → out (make (A.print bs) p) (onOutput n t s) ≡ keptThen St.outputStore r p (λ k. onOutput k t' s)
-  prints-act l x =
+  pub prints_act : length t ≡ output_limit → Prints bs n t r t' → out (make (A.print bs) p) (on_output n t s) ≡ kept_then St.output_store r p (λ k. on_output k t' s)
+  prints_act l x =
       let two : 2 + length bs ≡ length (A.line bs) = omega arith in
-      appends-act (A.print bs) St.outputStore (A.line bs) (λ y. S.setOutput y s) (λ y. refl) (λ y. ap (λ (k : ℕ). A.need St.outputStore k ∷ []) two) (λ y. refl) (λ y. refl) n t t' l p r x
+      appends_act (A.print bs) St.output_store (A.line bs) (λ y. S.set_output y s) (λ y. refl) (λ y. ap (λ (k : ℕ). A.need St.output_store k ∷ []) two) (λ y. refl) (λ y. refl) n t t' l p r x
 
 -- Two texts kept as one. The second is read from stores that have the first.
-module _ (c t : List ℕ) (n m : ℕ) (f g : St.Bytes → List ℕ) (h : m ≤ textLimit) (l : length t ≡ textLimit) where
+module _ (c t : List ℕ) (n m : ℕ) (f g : St.Bytes → List ℕ) (h : m ≤ text_limit) (l : length t ≡ text_limit) where
   abbrev one : List ℕ
   one = f (stores_of c n t m)
 
@@ -116,24 +116,24 @@ module _ (c t : List ℕ) (n m : ℕ) (f g : St.Bytes → List ℕ) (h : m ≤ t
     both : x + y ≡ length (one ++ two)
     both = let e = length-append one two in omega arith
 
-    pub join-full : textLimit - m < x + y → Keeps (one ++ two) m t Refused t
-    join-full q = appends-full textLimit m t (one ++ two) (x + y) both h q
+    pub join_full : text_limit - m < x + y → Keeps (one ++ two) m t Refused t
+    join_full q = appends_full text_limit m t (one ++ two) (x + y) both h q
 
-    module _ (t' : List ℕ) (e' : t' ≡ overwrite t m one) (fits : x + y ≤ textLimit - m) where
+    module _ (t' : List ℕ) (e' : t' ≡ overwrite t m one) (fits : x + y ≤ text_limit - m) where
       same_second : g (stores_of c n t' m) ≡ two
-      same_second = ap (λ (z : List ℕ). g (record { code = bytes_of c n; text = z })) (ap (λ (z : List ℕ). bytes_of z m) e' ∙ overwrite-under t m one (omega arith) m (omega arith))
+      same_second = ap (λ (z : List ℕ). g (record { code = bytes_of c n; text = z })) (ap (λ (z : List ℕ). bytes_of z m) e' ∙ overwrite_under t m one (omega arith) m (omega arith))
 
-      pub join-room : m + x + length (g (stores_of c n t' m)) ≤ length t'
-      join-room =
-          let k = ap length e' ∙ overwrite-length t m one (omega arith) in
+      pub join_room : m + x + length (g (stores_of c n t' m)) ≤ length t'
+      join_room =
+          let k = ap length e' ∙ overwrite_length t m one (omega arith) in
           let z = ap length same_second in
           omega arith
 
-      pub join-went : (t'' : List ℕ) → t'' ≡ overwrite t' (m + x) (g (stores_of c n t' m)) → Keeps (one ++ two) m t (Went (m + x + y)) t''
-      join-went t'' q =
+      pub join_went : (t'' : List ℕ) → t'' ≡ overwrite t' (m + x) (g (stores_of c n t' m)) → Keeps (one ++ two) m t (Went (m + x + y)) t''
+      join_went t'' q =
           let z : m + x ≡ m + length one = omega arith in
           let w : t'' ≡ overwrite t m (one ++ two) =
           q ∙ ap (λ (u : List ℕ). overwrite t' (m + x) u) same_second ∙ ap (λ (u : List ℕ). overwrite u (m + x) two) e'
-          ∙ ap (λ (k : ℕ). overwrite (overwrite t m one) k two) z ∙ overwrite-more t m one (omega arith) two in
+          ∙ ap (λ (k : ℕ). overwrite (overwrite t m one) k two) z ∙ overwrite_more t m one (omega arith) two in
           let s : m + (x + y) ≡ m + x + y = omega arith in
-          went-as s (appends-went textLimit m t (one ++ two) (x + y) both h t'' fits w)
+          went_as s (appends_went text_limit m t (one ++ two) (x + y) both h t'' fits w)

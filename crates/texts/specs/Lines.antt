@@ -5,213 +5,213 @@ use Rattle.machine.specs.Basic.{sum_of}
 use Rattle.machine.specs.Value as M
 use Rattle.machine.specs.State as St
 use Rattle.machine.specs.Act as A
-use Rattle.machine.specs.Convert.{toJsString}
+use Rattle.machine.specs.Convert.{to_js_string}
 use Rattle.machine.specs.Instruction.{joined}
 use Rattle.value.specs.Words.{value_at}
-use Rattle.value.specs.Lists.{row_of, row-none, row-length, row-append, one_more}
+use Rattle.value.specs.Lists.{row_of, row_none, row_length, row_append, one_more}
 use Rattle.texts.specs.Sources.{stores_of}
-use Rattle.texts.specs.Overwrite.{overwrite, overwrite-none, overwrite-length, overwrite-more, overwrite-one}
+use Rattle.texts.specs.Overwrite.{overwrite, overwrite_none, overwrite_length, overwrite_more, overwrite_one}
 use Rattle.texts.specs.Spells.{Sizes}
-use Rattle.texts.specs.Keeps.{outputLimit, Prints, appends-full, appends-went, went-as}
+use Rattle.texts.specs.Keeps.{output_limit, Prints, appends_full, appends_went, went_as}
 use Rattle.texts.specs.declared.Kept.TheVariants.{Went, Refused}
 use Rattle.texts.specs.declared.output.Measured.{Measured}
 use Rattle.texts.specs.declared.output.Measured.TheVariants.{Bytes, TooMany}
 
 -- the values of `count` rows of three words, from row `from` on
-abbrev pub valuesAt : List ℕ → ℕ → ℕ → List M.Value
-valuesAt w from count = row_of count (λ i. value_at w (3 * (from + i)))
+abbrev pub values_at : List ℕ → ℕ → ℕ → List M.Value
+values_at w from count = row_of count (λ i. value_at w (3 * (from + i)))
 
 -- the bytes of the texts of some values
 abbrev pub total : St.Bytes → List M.Value → ℕ
-total m vs = sum_of (λ v. length (toJsString m v)) vs
+total m vs = sum_of (λ v. length (to_js_string m v)) vs
 
 -- what stands before value i: nothing before the first
 abbrev pub gap : ℕ → List ℕ
 gap zero = []
 gap (suc i) = 32 ∷ []
 
-total-more : (m : St.Bytes) (us vs : List M.Value) → total m (us ++ vs) ≡ total m us + total m vs
-total-more m [] vs = omega arith
-total-more m (u ∷ us) vs = let e = total-more m us vs in omega arith
+total_more : (m : St.Bytes) (us vs : List M.Value) → total m (us ++ vs) ≡ total m us + total m vs
+total_more m [] vs = omega arith
+total_more m (u ∷ us) vs = let e = total_more m us vs in omega arith
 
 joined_length : (m : St.Bytes) (vs : List M.Value) → length (joined m vs) ≡ length vs - 1 + total m vs
 joined_length m [] = refl
 joined_length m (v ∷ []) = omega arith
 joined_length m (v ∷ (u ∷ vs)) =
     let e = joined_length m (u ∷ vs) in
-    length-append (toJsString m v) (32 ∷ joined m (u ∷ vs)) ∙ omega arith
+    length-append (to_js_string m v) (32 ∷ joined m (u ∷ vs)) ∙ omega arith
 
 -- one value more
-joined-more : (m : St.Bytes) (vs : List M.Value) (v : M.Value) → joined m (vs ++ v ∷ []) ≡ joined m vs ++ (gap (length vs) ++ toJsString m v)
-joined-more m [] v = refl
-joined-more m (u ∷ []) v = refl
-joined-more m (u ∷ (x ∷ vs)) v =
-    let e = joined-more m (x ∷ vs) v in
-    ap (λ (y : List ℕ). toJsString m u ++ 32 ∷ y) e
-    ∙ sym (append_assoc (toJsString m u) (32 ∷ joined m (x ∷ vs)) (32 ∷ toJsString m v))
+joined_more : (m : St.Bytes) (vs : List M.Value) (v : M.Value) → joined m (vs ++ v ∷ []) ≡ joined m vs ++ (gap (length vs) ++ to_js_string m v)
+joined_more m [] v = refl
+joined_more m (u ∷ []) v = refl
+joined_more m (u ∷ (x ∷ vs)) v =
+    let e = joined_more m (x ∷ vs) v in
+    ap (λ (y : List ℕ). to_js_string m u ++ 32 ∷ y) e
+    ∙ sym (append_assoc (to_js_string m u) (32 ∷ joined m (x ∷ vs)) (32 ∷ to_js_string m v))
 
 module _ (m : St.Bytes) (w : List ℕ) (from : ℕ) where
   abbrev at : ℕ → M.Value
   at i = value_at w (3 * (from + i))
 
-  pub line-none : joined m (valuesAt w from 0) ≡ []
-  line-none = ap (joined m) (row-none at)
+  pub line_none : joined m (values_at w from 0) ≡ []
+  line_none = ap (joined m) (row_none at)
 
-  pub line-more : (i : ℕ) → joined m (valuesAt w from (i + 1)) ≡ joined m (valuesAt w from i) ++ (gap i ++ toJsString m (at i))
-  line-more i =
-      ap (joined m) (one_more i at (at i) refl) ∙ joined-more m (valuesAt w from i) (at i)
-      ∙ ap (λ (k : ℕ). joined m (valuesAt w from i) ++ (gap k ++ toJsString m (at i))) (row-length i at)
+  pub line_more : (i : ℕ) → joined m (values_at w from (i + 1)) ≡ joined m (values_at w from i) ++ (gap i ++ to_js_string m (at i))
+  line_more i =
+      ap (joined m) (one_more i at (at i) refl) ∙ joined_more m (values_at w from i) (at i)
+      ∙ ap (λ (k : ℕ). joined m (values_at w from i) ++ (gap k ++ to_js_string m (at i))) (row_length i at)
 
-  total-row : (i : ℕ) → total m (valuesAt w from (i + 1)) ≡ total m (valuesAt w from i) + length (toJsString m (at i))
-  total-row i = ap (total m) (one_more i at (at i) refl) ∙ total-more m (valuesAt w from i) (at i ∷ []) ∙ omega arith
+  total_row : (i : ℕ) → total m (values_at w from (i + 1)) ≡ total m (values_at w from i) + length (to_js_string m (at i))
+  total_row i = ap (total m) (one_more i at (at i) refl) ∙ total_more m (values_at w from i) (at i ∷ []) ∙ omega arith
 
-  total-below : (i d : ℕ) → total m (valuesAt w from i) ≤ total m (valuesAt w from (i + d))
-  total-below i d =
-      let e : total m (valuesAt w from (i + d)) ≡ total m (valuesAt w from i) + total m (row_of d (λ k. at (i + k))) =
-      ap (total m) (row-append i d at) ∙ total-more m (valuesAt w from i) (row_of d (λ k. at (i + k))) in
+  total_below : (i d : ℕ) → total m (values_at w from i) ≤ total m (values_at w from (i + d))
+  total_below i d =
+      let e : total m (values_at w from (i + d)) ≡ total m (values_at w from i) + total m (row_of d (λ k. at (i + k))) =
+      ap (total m) (row_append i d at) ∙ total_more m (values_at w from i) (row_of d (λ k. at (i + k))) in
       omega arith
 
-  whole_length : (count : ℕ) → length (joined m (valuesAt w from count)) ≡ count - 1 + total m (valuesAt w from count)
-  whole_length count = joined_length m (valuesAt w from count) ∙ ap (λ (k : ℕ). k - 1 + total m (valuesAt w from count)) (row-length count at)
+  whole_length : (count : ℕ) → length (joined m (values_at w from count)) ≡ count - 1 + total m (values_at w from count)
+  whole_length count = joined_length m (values_at w from count) ∙ ap (λ (k : ℕ). k - 1 + total m (values_at w from count)) (row_length count at)
 
   -- a part of the values has no more bytes than all
-  pub line-below : (i count : ℕ) → i ≤ count → length (joined m (valuesAt w from i)) ≤ length (joined m (valuesAt w from count))
-  line-below i count h =
+  pub line_below : (i count : ℕ) → i ≤ count → length (joined m (values_at w from i)) ≤ length (joined m (values_at w from count))
+  line_below i count h =
       let d : i + (count - i) ≡ count = omega arith in
-      let t : total m (valuesAt w from (i + (count - i))) ≡ total m (valuesAt w from count) = ap (λ (k : ℕ). total m (valuesAt w from k)) d in
-      let b = total-below i (count - i) in
+      let t : total m (values_at w from (i + (count - i))) ≡ total m (values_at w from count) = ap (λ (k : ℕ). total m (values_at w from k)) d in
+      let b = total_below i (count - i) in
       omega (arith, whole_length i, whole_length count, t, b)
 
 -- The measure. The blanks are counted first, then the texts one by one.
 pub record Summed (n m : ℕ) (w : List ℕ) (from count i size : ℕ) : Type 0 where
-  pub sum : (c t : List ℕ) → n ≤ length c → m ≤ length t → size ≡ count - 1 + total (stores_of c n t m) (valuesAt w from i)
+  pub sum : (c t : List ℕ) → n ≤ length c → m ≤ length t → size ≡ count - 1 + total (stores_of c n t m) (values_at w from i)
 
 abbrev pub LineTold : ℕ → ℕ → List ℕ → ℕ → ℕ → ℕ → Measured → Type 0
-LineTold n m w from count room (Bytes k) = (k ≤ room) × ((c t : List ℕ) → n ≤ length c → m ≤ length t → k ≡ length (joined (stores_of c n t m) (valuesAt w from count)))
-LineTold n m w from count room TooMany = (c t : List ℕ) → n ≤ length c → m ≤ length t → room < length (joined (stores_of c n t m) (valuesAt w from count))
+LineTold n m w from count room (Bytes k) = (k ≤ room) × ((c t : List ℕ) → n ≤ length c → m ≤ length t → k ≡ length (joined (stores_of c n t m) (values_at w from count)))
+LineTold n m w from count room TooMany = (c t : List ℕ) → n ≤ length c → m ≤ length t → room < length (joined (stores_of c n t m) (values_at w from count))
 
 pub record MeasuresLine (n m : ℕ) (w : List ℕ) (from count room : ℕ) (r : Measured) : Type 0 where
   pub told : LineTold n m w from count room r
 
 module _ (n m : ℕ) (w : List ℕ) (from count : ℕ) where
-  pub summed-none : (size : ℕ) → size ≡ count - 1 → Summed n m w from count 0 size
-  summed-none size q = record {
+  pub summed_none : (size : ℕ) → size ≡ count - 1 → Summed n m w from count 0 size
+  summed_none size q = record {
     sum = λ c t a b.
-        let e : total (stores_of c n t m) (valuesAt w from 0) ≡ 0 = ap (total (stores_of c n t m)) (row-none (λ i. value_at w (3 * (from + i)))) in
+        let e : total (stores_of c n t m) (values_at w from 0) ≡ 0 = ap (total (stores_of c n t m)) (row_none (λ i. value_at w (3 * (from + i)))) in
         omega arith;
   }
 
   module _ (i size k : ℕ) (v : M.Value) (e : v ≡ value_at w (3 * (from + i))) (q : Sizes n m v k) (s : Summed n m w from count i size) where
-    next-sum : (c t : List ℕ) → n ≤ length c → m ≤ length t → size + k ≡ count - 1 + total (stores_of c n t m) (valuesAt w from (i + 1))
-    next-sum c t a b =
-        let x : k ≡ length (toJsString (stores_of c n t m) (value_at w (3 * (from + i)))) = q.size c t a b ∙ ap (λ (u : M.Value). length (toJsString (stores_of c n t m) u)) e in
-        omega (arith, x, s.sum c t a b, total-row (stores_of c n t m) w from i)
+    next_sum : (c t : List ℕ) → n ≤ length c → m ≤ length t → size + k ≡ count - 1 + total (stores_of c n t m) (values_at w from (i + 1))
+    next_sum c t a b =
+        let x : k ≡ length (to_js_string (stores_of c n t m) (value_at w (3 * (from + i)))) = q.size c t a b ∙ ap (λ (u : M.Value). length (to_js_string (stores_of c n t m) u)) e in
+        omega (arith, x, s.sum c t a b, total_row (stores_of c n t m) w from i)
 
-    pub summed-more : Summed n m w from count (i + 1) (size + k)
-    summed-more = record { sum = next-sum }
+    pub summed_more : Summed n m w from count (i + 1) (size + k)
+    summed_more = record { sum = next_sum }
 
-    pub line-long : (room : ℕ) → i < count → size ≤ room → room - size < k → MeasuresLine n m w from count room TooMany
-    line-long room h l g = record {
+    pub line_long : (room : ℕ) → i < count → size ≤ room → room - size < k → MeasuresLine n m w from count room TooMany
+    line_long room h l g = record {
       told = λ c t a b.
           let d : i + 1 + (count - (i + 1)) ≡ count = omega arith in
-          let z : total (stores_of c n t m) (valuesAt w from (i + 1 + (count - (i + 1)))) ≡ total (stores_of c n t m) (valuesAt w from count) = ap (λ (x : ℕ). total (stores_of c n t m) (valuesAt w from x)) d in
-          omega (arith, next-sum c t a b, z, total-below (stores_of c n t m) w from (i + 1) (count - (i + 1)), whole_length (stores_of c n t m) w from count);
+          let z : total (stores_of c n t m) (values_at w from (i + 1 + (count - (i + 1)))) ≡ total (stores_of c n t m) (values_at w from count) = ap (λ (x : ℕ). total (stores_of c n t m) (values_at w from x)) d in
+          omega (arith, next_sum c t a b, z, total_below (stores_of c n t m) w from (i + 1) (count - (i + 1)), whole_length (stores_of c n t m) w from count);
     }
 
-  pub line-blanks : (size room : ℕ) → size ≡ count - 1 → room < size → MeasuresLine n m w from count room TooMany
-  line-blanks size room e g = record { told = λ c t a b. omega (arith, whole_length (stores_of c n t m) w from count) }
+  pub line_blanks : (size room : ℕ) → size ≡ count - 1 → room < size → MeasuresLine n m w from count room TooMany
+  line_blanks size room e g = record { told = λ c t a b. omega (arith, whole_length (stores_of c n t m) w from count) }
 
-  pub line-whole : (i size room : ℕ) → i ≡ count → size ≤ room → Summed n m w from count i size → MeasuresLine n m w from count room (Bytes size)
-  line-whole i size room e l s = record {
+  pub line_whole : (i size room : ℕ) → i ≡ count → size ≤ room → Summed n m w from count i size → MeasuresLine n m w from count room (Bytes size)
+  line_whole i size room e l s = record {
     told = (
       l,
       λ c t a b.
-          let z : total (stores_of c n t m) (valuesAt w from i) ≡ total (stores_of c n t m) (valuesAt w from count) = ap (λ (x : ℕ). total (stores_of c n t m) (valuesAt w from x)) e in
+          let z : total (stores_of c n t m) (values_at w from i) ≡ total (stores_of c n t m) (values_at w from count) = ap (λ (x : ℕ). total (stores_of c n t m) (values_at w from x)) e in
           omega (arith, s.sum c t a b, z, whole_length (stores_of c n t m) w from count),
     );
   }
 
 -- The writing
 module _ (m : St.Bytes) (w : List ℕ) (from : ℕ) (d₀ : List ℕ) (start : ℕ) where
-  pub line-start : d₀ ≡ overwrite d₀ start (joined m (valuesAt w from 0))
-  line-start = sym (ap (overwrite d₀ start) (line-none m w from) ∙ overwrite-none d₀ start)
+  pub line_start : d₀ ≡ overwrite d₀ start (joined m (values_at w from 0))
+  line_start = sym (ap (overwrite d₀ start) (line_none m w from) ∙ overwrite_none d₀ start)
 
-  pub line_first : start ≡ start + length (joined m (valuesAt w from 0))
-  line_first = let e = ap length (line-none m w from) in omega arith
+  pub line_first : start ≡ start + length (joined m (values_at w from 0))
+  line_first = let e = ap length (line_none m w from) in omega arith
 
-  pub line-end : (d : List ℕ) (i count : ℕ) → i ≡ count → d ≡ overwrite d₀ start (joined m (valuesAt w from i)) → d ≡ overwrite d₀ start (joined m (valuesAt w from count))
-  line-end d i count e q = q ∙ ap (λ (k : ℕ). overwrite d₀ start (joined m (valuesAt w from k))) e
+  pub line_end : (d : List ℕ) (i count : ℕ) → i ≡ count → d ≡ overwrite d₀ start (joined m (values_at w from i)) → d ≡ overwrite d₀ start (joined m (values_at w from count))
+  line_end d i count e q = q ∙ ap (λ (k : ℕ). overwrite d₀ start (joined m (values_at w from k))) e
 
-  module _ (count i p : ℕ) (d : List ℕ) (v : M.Value) (fits : start + length (joined m (valuesAt w from count)) ≤ length d₀) (h : i < count)
-      (ev : v ≡ value_at w (3 * (from + i))) (e : d ≡ overwrite d₀ start (joined m (valuesAt w from i))) (q : p ≡ start + length (joined m (valuesAt w from i))) where
+  module _ (count i p : ℕ) (d : List ℕ) (v : M.Value) (fits : start + length (joined m (values_at w from count)) ≤ length d₀) (h : i < count)
+      (ev : v ≡ value_at w (3 * (from + i))) (e : d ≡ overwrite d₀ start (joined m (values_at w from i))) (q : p ≡ start + length (joined m (values_at w from i))) where
     abbrev so_far : List ℕ
-    so_far = joined m (valuesAt w from i)
+    so_far = joined m (values_at w from i)
 
     abbrev item : List ℕ
-    item = gap i ++ toJsString m v
+    item = gap i ++ to_js_string m v
 
-    grown : so_far ++ item ≡ joined m (valuesAt w from (i + 1))
-    grown = ap (λ (u : M.Value). so_far ++ (gap i ++ toJsString m u)) ev ∙ sym (line-more m w from i)
+    grown : so_far ++ item ≡ joined m (values_at w from (i + 1))
+    grown = ap (λ (u : M.Value). so_far ++ (gap i ++ to_js_string m u)) ev ∙ sym (line_more m w from i)
 
-    pub line-fits : p + length item ≤ length d
-    line-fits =
-        let a = line-below m w from (i + 1) count (omega arith) in
+    pub line_fits : p + length item ≤ length d
+    line_fits =
+        let a = line_below m w from (i + 1) count (omega arith) in
         let b = sym (length-append so_far item) ∙ ap length grown in
-        let l = ap length e ∙ overwrite-length d₀ start so_far (omega arith) in
+        let l = ap length e ∙ overwrite_length d₀ start so_far (omega arith) in
         omega arith
 
-    pub line_step : (d' : List ℕ) → d' ≡ overwrite d p item → d' ≡ overwrite d₀ start (joined m (valuesAt w from (i + 1)))
+    pub line_step : (d' : List ℕ) → d' ≡ overwrite d p item → d' ≡ overwrite d₀ start (joined m (values_at w from (i + 1)))
     line_step d' g =
-        let a = line-below m w from i count (omega arith) in
+        let a = line_below m w from i count (omega arith) in
         g ∙ ap (λ (y : List ℕ). overwrite y p item) e ∙ ap (λ (k : ℕ). overwrite (overwrite d₀ start so_far) k item) q
-        ∙ overwrite-more d₀ start so_far (omega arith) item ∙ ap (overwrite d₀ start) grown
+        ∙ overwrite_more d₀ start so_far (omega arith) item ∙ ap (overwrite d₀ start) grown
 
-    pub line-place : (p' : ℕ) → p' ≡ p + length item → p' ≡ start + length (joined m (valuesAt w from (i + 1)))
-    line-place p' g = let b = sym (length-append so_far item) ∙ ap length grown in omega arith
+    pub line_place : (p' : ℕ) → p' ≡ p + length item → p' ≡ start + length (joined m (values_at w from (i + 1)))
+    line_place p' g = let b = sym (length-append so_far item) ∙ ap length grown in omega arith
 
 -- the first value, and one with a blank before it
 module _ (i : ℕ) (t : List ℕ) where
-  pub first-item : i ≡ 0 → gap i ++ t ≡ t
-  first-item e = rw e
+  pub first_item : i ≡ 0 → gap i ++ t ≡ t
+  first_item e = rw e
 
-  later-item : (i ≡ 0 → ⊥) → gap i ++ t ≡ 32 ∷ t
-  later-item h = go i h
+  later_item : (i ≡ 0 → ⊥) → gap i ++ t ≡ 32 ∷ t
+  later_item h = go i h
     where
       go : (k : ℕ) → (k ≡ 0 → ⊥) → gap k ++ t ≡ 32 ∷ t
       go zero g = absurd (g refl)
       go (suc k) g = refl
 
   module _ (h : i ≡ 0 → ⊥) (d : List ℕ) (at : ℕ) (l : at + length (gap i ++ t) ≤ length d) where
-    pub later-room : (at < length d) × (at + 1 + length t ≤ length (set d at 32))
-    later-room = let e = ap length (later-item h) in let k = length-set d at 32 in (omega arith, omega arith)
+    pub later_room : (at < length d) × (at + 1 + length t ≤ length (set d at 32))
+    later_room = let e = ap length (later_item h) in let k = length-set d at 32 in (omega arith, omega arith)
 
-    pub later-wrote : (d' : List ℕ) → d' ≡ overwrite (set d at 32) (at + 1) t → d' ≡ overwrite d at (gap i ++ t)
-    later-wrote d' q =
-        let r = later-room in
-        q ∙ ap (λ (y : List ℕ). overwrite y (at + 1) t) (overwrite-one d at 32 r.0) ∙ overwrite-more d at (32 ∷ []) (omega arith) t
-        ∙ ap (overwrite d at) (sym (later-item h))
+    pub later_wrote : (d' : List ℕ) → d' ≡ overwrite (set d at 32) (at + 1) t → d' ≡ overwrite d at (gap i ++ t)
+    later_wrote d' q =
+        let r = later_room in
+        q ∙ ap (λ (y : List ℕ). overwrite y (at + 1) t) (overwrite_one d at 32 r.0) ∙ overwrite_more d at (32 ∷ []) (omega arith) t
+        ∙ ap (overwrite d at) (sym (later_item h))
 
-    pub later-place : (r : ℕ) → r ≡ at + 1 + length t → r ≡ at + length (gap i ++ t)
-    later-place r q = let e = ap length (later-item h) in omega arith
+    pub later_place : (r : ℕ) → r ≡ at + 1 + length t → r ≡ at + length (gap i ++ t)
+    later_place r q = let e = ap length (later_item h) in omega arith
 
 -- the two bytes of the length, and the line
-module _ (o size : ℕ) (d bs : List ℕ) (l : length d ≡ outputLimit) (h : o ≤ outputLimit) (e : size ≡ length bs) where
-  pub print-full : outputLimit < o + (2 + size) → Prints bs o d Refused d
-  print-full g = appends-full outputLimit o d (A.line bs) (2 + size) (omega arith) h (omega arith)
+module _ (o size : ℕ) (d bs : List ℕ) (l : length d ≡ output_limit) (h : o ≤ output_limit) (e : size ≡ length bs) where
+  pub print_full : output_limit < o + (2 + size) → Prints bs o d Refused d
+  print_full g = appends_full output_limit o d (A.line bs) (2 + size) (omega arith) h (omega arith)
 
-  pub print-went : (a b : ℕ) (d' : List ℕ) → o + 2 + size ≤ outputLimit → a ≡ size / 256 → b ≡ size % 256
+  pub print_went : (a b : ℕ) (d' : List ℕ) → o + 2 + size ≤ output_limit → a ≡ size / 256 → b ≡ size % 256
       → d' ≡ overwrite (set (set d o a) (o + 1) b) (o + 2) bs → Prints bs o d (Went (o + 2 + size)) d'
-  print-went a b d' g ea eb q =
+  print_went a b d' g ea eb q =
       let k = length-set d o a in
       let x : set (set d o a) (o + 1) b ≡ overwrite d o (a ∷ b ∷ []) =
-      overwrite-one (set d o a) (o + 1) b (omega arith) ∙ ap (λ (y : List ℕ). overwrite y (o + 1) (b ∷ [])) (overwrite-one d o a (omega arith))
-      ∙ overwrite-more d o (a ∷ []) (omega arith) (b ∷ []) in
-      let y : d' ≡ overwrite d o (a ∷ b ∷ bs) = q ∙ ap (λ (u : List ℕ). overwrite u (o + 2) bs) x ∙ overwrite-more d o (a ∷ b ∷ []) (omega arith) bs in
+      overwrite_one (set d o a) (o + 1) b (omega arith) ∙ ap (λ (y : List ℕ). overwrite y (o + 1) (b ∷ [])) (overwrite_one d o a (omega arith))
+      ∙ overwrite_more d o (a ∷ []) (omega arith) (b ∷ []) in
+      let y : d' ≡ overwrite d o (a ∷ b ∷ bs) = q ∙ ap (λ (u : List ℕ). overwrite u (o + 2) bs) x ∙ overwrite_more d o (a ∷ b ∷ []) (omega arith) bs in
       let fa : a ≡ length bs / 256 = ea ∙ ap (λ (u : ℕ). u / 256) e in
       let fb : b ≡ length bs % 256 = eb ∙ ap (λ (u : ℕ). u % 256) e in
       let z : d' ≡ overwrite d o (A.line bs) = y ∙ ap (λ (u : ℕ). overwrite d o (u ∷ b ∷ bs)) fa ∙ ap (λ (u : ℕ). overwrite d o ((length bs / 256) ∷ u ∷ bs)) fb in
       let s : o + (2 + size) ≡ o + 2 + size = omega arith in
-      went-as s (appends-went outputLimit o d (A.line bs) (2 + size) (omega arith) h d' (omega arith) z)
+      went_as s (appends_went output_limit o d (A.line bs) (2 + size) (omega arith) h d' (omega arith) z)
 
 -- the measure taken apart
 module _ {n m : ℕ} {w : List ℕ} {from count room : ℕ} {r : Measured} (q : MeasuresLine n m w from count room r) where

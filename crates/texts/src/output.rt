@@ -1,13 +1,13 @@
 //! Texts written where they are wanted: into a line of the output, or to the start of a caller's buffer.
 ghost use Rattle.std.specs.Prelude.{◌≡◌, ◌++◌, ◌+◌, ◌-◌, ◌*◌, ◌≤◌, length};
-ghost use Rattle.machine.specs.Convert.{toJsString};
+ghost use Rattle.machine.specs.Convert.{to_js_string};
 ghost use Rattle.machine.specs.Instruction.{joined};
 ghost use Rattle.value.specs.Words.{value_of};
 ghost use Rattle.texts.specs.Sources.{InUse, stores_of};
 ghost use Rattle.texts.specs.Overwrite.{overwrite};
 ghost use Rattle.texts.specs.Spells.{Sizes, Writes};
-ghost use Rattle.texts.specs.Keeps.{outputLimit, Prints};
-ghost use Rattle.texts.specs.Lines.{valuesAt, gap, MeasuresLine};
+ghost use Rattle.texts.specs.Keeps.{output_limit, Prints};
+ghost use Rattle.texts.specs.Lines.{values_at, gap, MeasuresLine};
 
 use crate::{Kept, OUTPUT_LIMIT, copy, spell};
 use number::format::Formatted;
@@ -31,8 +31,8 @@ pub fn write_value<'a>(
     at: usize,
 ) -> usize
     requires in_use { InUse code.now n text.now m }
-    requires v_in_bounds { at + length (toJsString (stores_of code.now n text.now m) (value_of v)) ≤ length dest.old }
-    ensures { (dest.new ≡ overwrite dest.old at (toJsString (stores_of code.now n text.now m) (value_of v))) × (result ≡ at + length (toJsString (stores_of code.now n text.now m) (value_of v))) }
+    requires v_in_bounds { at + length (to_js_string (stores_of code.now n text.now m) (value_of v)) ≤ length dest.old }
+    ensures { (dest.new ≡ overwrite dest.old at (to_js_string (stores_of code.now n text.now m) (value_of v))) × (result ≡ at + length (to_js_string (stores_of code.now n text.now m) (value_of v))) }
 {
     spell::write_spelling(code, n, text, m, spell::spell_value(v), dest, at)
 }
@@ -92,8 +92,8 @@ pub(crate) fn write_item<'a>(
     at: usize,
 ) -> usize
     requires in_use { InUse code.now n text.now m }
-    requires v_in_bounds { at + length (gap i ++ toJsString (stores_of code.now n text.now m) (value_of v)) ≤ length dest.old }
-    ensures { (dest.new ≡ overwrite dest.old at (gap i ++ toJsString (stores_of code.now n text.now m) (value_of v))) × (result ≡ at + length (gap i ++ toJsString (stores_of code.now n text.now m) (value_of v))) }
+    requires v_in_bounds { at + length (gap i ++ to_js_string (stores_of code.now n text.now m) (value_of v)) ≤ length dest.old }
+    ensures { (dest.new ≡ overwrite dest.old at (gap i ++ to_js_string (stores_of code.now n text.now m) (value_of v))) × (result ≡ at + length (gap i ++ to_js_string (stores_of code.now n text.now m) (value_of v))) }
 {
     if i == 0 {
         return write_value(code, n, text, m, v, dest, at);
@@ -115,8 +115,8 @@ pub(crate) fn write_line<'a>(
 )
     requires in_use { InUse code.now n text.now m }
     requires count_in_bounds { 3 * (from + count) ≤ length stacks.now }
-    requires count_in_bounds_2 { start + length (joined (stores_of code.now n text.now m) (valuesAt stacks.now from count)) ≤ length dest.old }
-    ensures { dest.new ≡ overwrite dest.old start (joined (stores_of code.now n text.now m) (valuesAt stacks.now from count)) }
+    requires count_in_bounds_2 { start + length (joined (stores_of code.now n text.now m) (values_at stacks.now from count)) ≤ length dest.old }
+    ensures { dest.new ≡ overwrite dest.old start (joined (stores_of code.now n text.now m) (values_at stacks.now from count)) }
 {
     let mut at = start;
     let mut i: usize = 0;
@@ -149,8 +149,8 @@ pub fn print<'a>(
 ) -> Kept
     requires in_use { InUse code.now n text.now m }
     requires count_in_bounds { 3 * (from + count) ≤ length stacks.now }
-    requires o_le_output_limit { (o ≤ outputLimit) × (length output.old ≡ outputLimit) }
-    ensures { Prints (joined (stores_of code.now n text.now m) (valuesAt stacks.now from count)) o output.old result output.new }
+    requires o_le_output_limit { (o ≤ output_limit) × (length output.old ≡ output_limit) }
+    ensures { Prints (joined (stores_of code.now n text.now m) (values_at stacks.now from count)) o output.old result output.new }
 {
     if OUTPUT_LIMIT - o < 2 {
         return Kept::Refused;
@@ -187,7 +187,7 @@ pub fn write_text<'a>(
     buffer: &mut [u8],
 ) -> Formatted
     requires { InUse code.now n text.now m }
-    ensures { Writes (toJsString (stores_of code.now n text.now m) (value_of v)) buffer.old result buffer.new }
+    ensures { Writes (to_js_string (stores_of code.now n text.now m) (value_of v)) buffer.old result buffer.new }
 {
     let s = spell::spell_value(v);
     let count = spell::spelling_size(n, m, s);

@@ -1,21 +1,21 @@
 //! The text of a value: a text has its place, a number is laid out, and a word is named. So each is measured with nothing written, and written straight to
 //! where it is wanted. A key that is only looked up goes into a small buffer that the caller has.
 ghost use Rattle.std.specs.Prelude.{◌≡◌, ◌++◌, ◌+◌, ◌≤◌, length};
-ghost use Rattle.machine.specs.Convert.{toJsString, jsTypeof};
-ghost use Rattle.machine.specs.NumberText.{longestText};
+ghost use Rattle.machine.specs.Convert.{to_js_string, js_typeof};
+ghost use Rattle.machine.specs.NumberText.{longest_text};
 ghost use Rattle.number.specs.Layout.{Wrote};
 ghost use Rattle.value.specs.Words.{value_of};
 ghost use Rattle.texts.specs.Sources.{InUse, stores_of};
 ghost use Rattle.texts.specs.Overwrite.{overwrite};
-ghost use Rattle.texts.specs.Spells.{wordText, laidOut, spellingBytes, Says, Sized, Spells};
-ghost use Rattle.texts.specs.Keeps.{textLimit, Keeps};
+ghost use Rattle.texts.specs.Spells.{word_text, laid_out, spelling_bytes, Says, Sized, Spells};
+ghost use Rattle.texts.specs.Keeps.{text_limit, Keeps};
 
 use crate::{Kept, Source, TEXT_LIMIT, copy, copy_own, locate, size_of};
 use number::format::{LONGEST_TEXT, Layout};
 use number::{JsNumber, format};
 use value::Value;
 
-/// The words that a value or its type is spelled by; an object that is a value is `[object Object]`.
+/// The words that a value or its type is spelled by; an object that is a value is `[object object]`.
 #[derive(Clone, Copy)]
 pub enum Word {
     Undefined,
@@ -40,7 +40,7 @@ pub enum Spelling {
 }
 
 pub(crate) fn word_size(w: Word) -> usize
-    ensures { result ≡ length (wordText w) }
+    ensures { result ≡ length (word_text w) }
 {
     match w {
         Word::Undefined => 9,
@@ -66,8 +66,8 @@ pub(crate) fn put(dest: &mut [u8], at: usize, bytes: &[u8]) -> usize
 }
 
 pub(crate) fn write_word(w: Word, dest: &mut [u8], at: usize) -> usize
-    requires { at + length (wordText w) ≤ length dest.old }
-    ensures { Wrote (wordText w) dest.old at dest.new result }
+    requires { at + length (word_text w) ≤ length dest.old }
+    ensures { Wrote (word_text w) dest.old at dest.new result }
 {
     match w {
         Word::Undefined => put(dest, at, b"undefined"),
@@ -84,7 +84,7 @@ pub(crate) fn write_word(w: Word, dest: &mut [u8], at: usize) -> usize
 }
 
 pub fn spell_value(v: Value) -> Spelling
-    ensures { Says (λ m. toJsString m (value_of v)) result }
+    ensures { Says (λ m. to_js_string m (value_of v)) result }
 {
     match v {
         Value::Undefined => Spelling::Word(Word::Undefined),
@@ -104,7 +104,7 @@ pub fn spell_value(v: Value) -> Spelling
 }
 
 pub fn type_word(v: Value) -> Word
-    ensures { wordText result ≡ jsTypeof (value_of v) }
+    ensures { word_text result ≡ js_typeof (value_of v) }
 {
     match v {
         Value::Undefined => Word::Undefined,
@@ -120,7 +120,7 @@ pub fn type_word(v: Value) -> Word
 
 /// How many bytes the text has, with n bytes of code and m of text in use.
 pub fn spelling_size(n: usize, m: usize, s: Spelling) -> usize
-    requires { length (laidOut s) ≤ longestText }
+    requires { length (laid_out s) ≤ longest_text }
     ensures { Sized n m s result }
 {
     match s {
@@ -142,8 +142,8 @@ pub fn write_spelling<'a>(
     to: usize,
 ) -> usize
     requires in_use { InUse code.now n text.now m }
-    requires s_in_bounds { to + length (spellingBytes (stores_of code.now n text.now m) s) ≤ length dest.old }
-    ensures { Wrote (spellingBytes (stores_of code.now n text.now m) s) dest.old to dest.new result }
+    requires s_in_bounds { to + length (spelling_bytes (stores_of code.now n text.now m) s) ≤ length dest.old }
+    ensures { Wrote (spelling_bytes (stores_of code.now n text.now m) s) dest.old to dest.new result }
 {
     match s {
         Spelling::Code(at, size) => {
@@ -174,8 +174,8 @@ pub(crate) fn append_spelling(
 )
     requires in_use { InUse code.now n text.old m }
     requires m_le_e { m ≤ e }
-    requires s_in_bounds { e + length (spellingBytes (stores_of code.now n text.old m) s) ≤ length text.old }
-    ensures { text.new ≡ overwrite text.old e (spellingBytes (stores_of code.now n text.old m) s) }
+    requires s_in_bounds { e + length (spelling_bytes (stores_of code.now n text.old m) s) ≤ length text.old }
+    ensures { text.new ≡ overwrite text.old e (spelling_bytes (stores_of code.now n text.old m) s) }
 {
     match s {
         Spelling::Code(at, size) => {
@@ -202,8 +202,8 @@ pub(crate) fn append_spelling(
 
 // The buffer's length is asked, since nothing else tells it of an array behind a `&mut`.
 pub fn to_js_string(v: Value, buffer: &mut [u8; LONGEST_TEXT]) -> Source
-    requires { length buffer.old ≡ longestText }
-    ensures { Spells (λ m. toJsString m (value_of v)) result buffer.new }
+    requires { length buffer.old ≡ longest_text }
+    ensures { Spells (λ m. to_js_string m (value_of v)) result buffer.new }
 {
     let s = spell_value(v);
     match s {
@@ -217,8 +217,8 @@ pub fn to_js_string(v: Value, buffer: &mut [u8; LONGEST_TEXT]) -> Source
 /// The texts of two values kept as one.
 pub fn keep_joined(code: &[u8], n: usize, text: &mut [u8], m: usize, v: Value, u: Value) -> Kept
     requires n_in_bounds { n ≤ length code.now }
-    requires m_le_text_limit { (m ≤ textLimit) × (length text.old ≡ textLimit) }
-    ensures { Keeps (toJsString (stores_of code.now n text.old m) (value_of v) ++ toJsString (stores_of code.now n text.old m) (value_of u)) m text.old result text.new }
+    requires m_le_text_limit { (m ≤ text_limit) × (length text.old ≡ text_limit) }
+    ensures { Keeps (to_js_string (stores_of code.now n text.old m) (value_of v) ++ to_js_string (stores_of code.now n text.old m) (value_of u)) m text.old result text.new }
 {
     let a = spell_value(v);
     let b = spell_value(u);
@@ -239,8 +239,8 @@ pub fn keep_joined(code: &[u8], n: usize, text: &mut [u8], m: usize, v: Value, u
 /// The word for a value's type kept.
 pub fn keep_typeof(code: &[u8], n: usize, text: &mut [u8], m: usize, v: Value) -> Kept
     requires n_in_bounds { n ≤ length code.now }
-    requires m_le_text_limit { (m ≤ textLimit) × (length text.old ≡ textLimit) }
-    ensures { Keeps (jsTypeof (value_of v)) m text.old result text.new }
+    requires m_le_text_limit { (m ≤ text_limit) × (length text.old ≡ text_limit) }
+    ensures { Keeps (js_typeof (value_of v)) m text.old result text.new }
 {
     let w = type_word(v);
     let size = word_size(w);

@@ -7,24 +7,24 @@ use Rattle.value.specs.declared.Space.{Space}
 use Rattle.value.specs.declared.Space.TheVariants.{Frames, Slots, Handlers, Functions, Objects, Properties, Globals, Text, Output}
 use Rattle.value.specs.Words.{value_of}
 
-abbrev pub errorOf : JsVmError → M.JsVmError
-errorOf ExecutionLimitExceeded = M.executionLimitExceeded
-errorOf (UnknownOpcode b) = M.unknownOpcode b
-errorOf IpOutOfBounds = M.ipOutOfBounds
-errorOf StackUnderflow = M.stackUnderflow
-errorOf StackOverflow = M.stackOverflow
-errorOf (UncaughtException v) = M.uncaughtException (value_of v)
-errorOf NotCallable = M.notCallable
-errorOf InvalidFunctionId = M.invalidFunctionId
-errorOf NoCallFrame = M.noCallFrame
+abbrev pub error_of : JsVmError → M.JsVmError
+error_of ExecutionLimitExceeded = M.execution_limit_exceeded
+error_of (UnknownOpcode b) = M.unknown_opcode b
+error_of IpOutOfBounds = M.ip_out_of_bounds
+error_of StackUnderflow = M.stack_underflow
+error_of StackOverflow = M.stack_overflow
+error_of (UncaughtException v) = M.uncaught_exception (value_of v)
+error_of NotCallable = M.not_callable
+error_of InvalidFunctionId = M.invalid_function_id
+error_of NoCallFrame = M.no_call_frame
 
 abbrev pub space_of : Space → St.Store
-space_of Frames = St.frameStore
-space_of Slots = St.slotStore
-space_of Handlers = St.handlerStore
-space_of Functions = St.functionStore
-space_of Objects = St.objectStore
-space_of Properties = St.propertyStore
-space_of Globals = St.globalStore
-space_of Text = St.textStore
-space_of Output = St.outputStore
+space_of Frames = St.frame_store
+space_of Slots = St.slot_store
+space_of Handlers = St.handler_store
+space_of Functions = St.function_store
+space_of Objects = St.object_store
+space_of Properties = St.property_store
+space_of Globals = St.global_store
+space_of Text = St.text_store
+space_of Output = St.output_store

@@ -6,29 +6,29 @@ use Rattle.writer.specs.declared.Writer.{Writer}
 use Rattle.writer.specs.declared.Written.{Written}
 use Rattle.writer.specs.declared.Written.TheVariants.{Wrote, Refused}
 
-abbrev pub stageOf : ℕ → W.Stage
-stageOf zero = W.unbegun
-stageOf (suc zero) = W.begun
-stageOf (suc (suc zero)) = W.opened
-stageOf (suc (suc (suc zero))) = W.coded
-stageOf (suc (suc (suc (suc n)))) = W.finished
+abbrev pub stage_of : ℕ → W.Stage
+stage_of zero = W.unbegun
+stage_of (suc zero) = W.begun
+stage_of (suc (suc zero)) = W.opened
+stage_of (suc (suc (suc zero))) = W.coded
+stage_of (suc (suc (suc (suc n)))) = W.finished
 
 -- The number that stands for a stage: any above 3 reads as finished, and 4 is the one that is written.
-abbrev pub stageNumber : W.Stage → ℕ
-stageNumber W.unbegun = 0
-stageNumber W.begun = 1
-stageNumber W.opened = 2
-stageNumber W.coded = 3
-stageNumber W.finished = 4
+abbrev pub stage_number : W.Stage → ℕ
+stage_number W.unbegun = 0
+stage_number W.begun = 1
+stage_number W.opened = 2
+stage_number W.coded = 3
+stage_number W.finished = 4
 
 abbrev pub writer_of : Writer → W.Writer
-writer_of w = record { stage = stageOf w.stage; size = w.size; templates = w.templates; at = w.at; constants = w.constants }
+writer_of w = record { stage = stage_of w.stage; size = w.size; templates = w.templates; at = w.at; constants = w.constants }
 
-abbrev pub sessionOf : Writer → List ℕ → W.Session
-sessionOf w b = record { writer = writer_of w; buffer = b }
+abbrev pub session_of : Writer → List ℕ → W.Session
+session_of w b = record { writer = writer_of w; buffer = b }
 
-abbrev pub takesIn : W.Writer → Bool
-takesIn w = leb (w.at + 8) w.size && W.isOpen w.stage
+abbrev pub takes_in : W.Writer → Bool
+takes_in w = leb (w.at + 8) w.size && W.is_open w.stage
 
 -- The number of an answer, and the writer that it leaves to the host.
 abbrev pub refusal : Written → Option ℕ
@@ -40,15 +40,15 @@ left (Wrote y) w = y
 left (Refused n) w = w
 
 abbrev pub answer : W.Call → Writer → List ℕ → Option ℕ
-answer c w b = W.askedOn (W.inPlace c (writer_of w)) c (sessionOf w b)
+answer c w b = W.asked_on (W.in_place c (writer_of w)) c (session_of w b)
 
 -- The stage that an accepted call leaves has its own number, so that each word of the writer is fixed.
 abbrev pub Numbered : Written → Type 0
-Numbered (Wrote y) = y.stage ≡ stageNumber (stageOf y.stage)
+Numbered (Wrote y) = y.stage ≡ stage_number (stage_of y.stage)
 Numbered (Refused n) = Unit {0}
 
 -- THE CONTRACT of a call, over any writer and any buffer: its answer, the writer and every byte of the buffer are the machine's.
 pub record Does (c : W.Call) (w : Writer) (b : List ℕ) (r : Written) (b' : List ℕ) : Type 0 where
   pub said : refusal r ≡ answer c w b
-  pub session : sessionOf (left r w) b' ≡ W.performed (answer c w b) c (sessionOf w b)
+  pub session : session_of (left r w) b' ≡ W.performed (answer c w b) c (session_of w b)
   pub numbered : Numbered r

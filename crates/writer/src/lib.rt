@@ -5,7 +5,7 @@ ghost use Rattle.std.specs.Prelude.{◌≡◌, true, ◌&&◌, List, ◌++◌, �
 ghost use Rattle.machine.specs.Format as F;
 ghost use Rattle.machine.specs.Writer as W;
 ghost use Rattle.number.specs.Overwrite.{overwrite};
-ghost use Rattle.writer.specs.View.{stageOf, writer_of, takesIn, Does};
+ghost use Rattle.writer.specs.View.{stage_of, writer_of, takes_in, Does};
 
 use texts::copy;
 
@@ -69,7 +69,7 @@ fn room(n: usize, size: usize, k: usize) -> bool
 }
 
 fn underway(w: Writer) -> bool
-    ensures { result ≡ W.underway (stageOf w.stage) }
+    ensures { result ≡ W.underway (stage_of w.stage) }
 {
     if w.stage == 0 {
         return false;
@@ -79,7 +79,7 @@ fn underway(w: Writer) -> bool
 
 // Is a template open, its eight bytes among those written?
 fn takes(w: Writer) -> bool
-    ensures { result ≡ takesIn (writer_of w) }
+    ensures { result ≡ takes_in (writer_of w) }
 {
     if w.size < 8 {
         return false;
@@ -91,7 +91,7 @@ fn takes(w: Writer) -> bool
 }
 
 fn fits_template(w: Writer, parameters: u64, locals: u64) -> bool
-    ensures { result ≡ (W.underway (stageOf w.stage) && W.countsFit (W.template parameters locals) (writer_of w)) }
+    ensures { result ≡ (W.underway (stage_of w.stage) && W.counts_fit (W.template parameters locals) (writer_of w)) }
 {
     if underway(w) {
         if 65535 <= w.templates {
@@ -149,7 +149,7 @@ pub fn template(w: Writer, buffer: &mut [u8], parameters: u64, locals: u64) -> W
 // A constant whose bytes are those of head and body.
 fn constant(w: Writer, buffer: &mut [u8], head: &[u8], body: &[u8]) -> Written
     requires { (length head.now ≤ 9) × (length body.now ≤ 65535) }
-    ensures { (c : F.Constant) → W.smallConstant c ≡ true → F.constant_bytes c ≡ head.now ++ body.now → Does (W.constant c) w buffer.old result buffer.new }
+    ensures { (c : F.Constant) → W.small_constant c ≡ true → F.constant_bytes c ≡ head.now ++ body.now → Does (W.constant c) w buffer.old result buffer.new }
 {
     if takes(w) {
         if 65535 <= w.constants {

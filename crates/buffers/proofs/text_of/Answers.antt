@@ -1,22 +1,22 @@
 use borrow.Author.Rules.{rules}
 use Rattle.heapops.specs.Turns.{mem}
 use Rattle.finish.specs.Parts.{tables}
-use Rattle.host.specs.Lent.{lent-if, not-lent-buffer, lent-use}
-use Rattle.buffers.specs.Writes.{text-30, text-31, text-bytes}
+use Rattle.host.specs.Lent.{lent_if, not_lent_buffer, lent_use}
+use Rattle.buffers.specs.Writes.{text_30, text_31, text_bytes}
 use mathlib.Core.Path.{refl, sym, ◌∙◌}
 use Rattle.machine.specs.Act.{plain}
 use Rattle.value.specs.Words.{value_of}
 use Rattle.std.proofs.Common.{length, ◌≡◌, ℕ, ◌+◌, ◌-◌, ◌*◌, ◌<◌, ◌≤◌, ◌/◌, ◌%◌, Bool, true, false, nat_eq, nat_lt, List, [], ◌∷◌, ◌++◌, slice_index_or, slice_set, bit_and, bit_or, Fits, w8, w32, w64, Bor, MutBor}
-use Rattle.machine.specs.Act.{asBytes}
+use Rattle.machine.specs.Act.{as_bytes}
 use Rattle.machine.specs.Host as Host
-use Rattle.host.specs.Calls.{Called, Buffered, answerOfText, answerOfDrain, countsOfDrain}
+use Rattle.host.specs.Calls.{Called, Buffered, answer_of_text, answer_of_drain, counts_of_drain}
 use Rattle.buffers.proofs.text_of.Goals as goal
 
 pub returns-in-Bytes-clause-called : goal.returns-in-Bytes-clause-called
-returns-in-Bytes-clause-called c = (text-bytes (lent-if {c = c.args.c} {g = tables c.args.code.now c.args.places.now c.args.rows.now c.args.starts.now} {m = mem c.args.stacks.now c.args.heap.now c.args.text.now c.args.output.now} c.lent.ensures c.if-lent.true) (plain (value_of c.args.v)) refl (sym c.handle_fine.ensures ∙ c.if-handle_fine.true) c.write_text.ensures _ c.in-Bytes.is).0
+returns-in-Bytes-clause-called c = (text_bytes (lent_if {c = c.args.c} {g = tables c.args.code.now c.args.places.now c.args.rows.now c.args.starts.now} {m = mem c.args.stacks.now c.args.heap.now c.args.text.now c.args.output.now} c.lent.ensures c.if-lent.true) (plain (value_of c.args.v)) refl (sym c.handle_fine.ensures ∙ c.if-handle_fine.true) c.write_text.ensures _ c.in-Bytes.is).0
 
 pub returns-in-Bytes-clause-buffered : goal.returns-in-Bytes-clause-buffered
-returns-in-Bytes-clause-buffered c = (text-bytes (lent-if {c = c.args.c} {g = tables c.args.code.now c.args.places.now c.args.rows.now c.args.starts.now} {m = mem c.args.stacks.now c.args.heap.now c.args.text.now c.args.output.now} c.lent.ensures c.if-lent.true) (plain (value_of c.args.v)) refl (sym c.handle_fine.ensures ∙ c.if-handle_fine.true) c.write_text.ensures _ c.in-Bytes.is).1
+returns-in-Bytes-clause-buffered c = (text_bytes (lent_if {c = c.args.c} {g = tables c.args.code.now c.args.places.now c.args.rows.now c.args.starts.now} {m = mem c.args.stacks.now c.args.heap.now c.args.text.now c.args.output.now} c.lent.ensures c.if-lent.true) (plain (value_of c.args.v)) refl (sym c.handle_fine.ensures ∙ c.if-handle_fine.true) c.write_text.ensures _ c.in-Bytes.is).1
 
 pub returns-in-TooShort-clause-called : goal.returns-in-TooShort-clause-called
-returns-in-TooShort-clause-called c = (text-31 (lent-if {c = c.args.c} {g = tables c.args.code.now c.args.places.now c.args.rows.now c.args.starts.now} {m = mem c.args.stacks.now c.args.heap.now c.args.text.now c.args.output.now} c.lent.ensures c.if-lent.true) (plain (value_of c.args.v)) refl (sym c.handle_fine.ensures ∙ c.if-handle_fine.true) c.write_text.ensures c.in-TooShort.is).0
+returns-in-TooShort-clause-called c = (text_31 (lent_if {c = c.args.c} {g = tables c.args.code.now c.args.places.now c.args.rows.now c.args.starts.now} {m = mem c.args.stacks.now c.args.heap.now c.args.text.now c.args.output.now} c.lent.ensures c.if-lent.true) (plain (value_of c.args.v)) refl (sym c.handle_fine.ensures ∙ c.if-handle_fine.true) c.write_text.ensures c.in-TooShort.is).0

@@ -1,5 +1,5 @@
-use Rattle.answers.specs.Flat.{numbered-told}
+use Rattle.answers.specs.Flat.{numbered_told}
 use Rattle.carderwheel.proofs.carderwheel_load_in.Goals as goal
 
 pub returns : goal.returns
-returns c = numbered-told c.load-x.result c.numbered.ensures c.load-x.ensures
+returns c = numbered_told c.load-x.result c.numbered.ensures c.load-x.ensures

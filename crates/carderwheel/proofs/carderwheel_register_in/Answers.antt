@@ -1,5 +1,5 @@
-use Rattle.answers.specs.Flat.{numbered-told}
+use Rattle.answers.specs.Flat.{numbered_told}
 use Rattle.carderwheel.proofs.carderwheel_register_in.Goals as goal
 
 pub returns : goal.returns
-returns c = numbered-told c.register-x.result c.numbered.ensures c.register-x.ensures
+returns c = numbered_told c.register-x.result c.numbered.ensures c.register-x.ensures

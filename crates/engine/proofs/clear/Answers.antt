@@ -3,10 +3,10 @@ use Rattle.heapops.specs.Turns.{mem}
 use Rattle.finish.specs.Parts.{tables}
 use mathlib.Core.Path.{sym, ◌∙◌}
 use Rattle.host.specs.Lent.{lengths}
-use Rattle.engine.specs.Clears.{clear-refused, clear-done}
+use Rattle.engine.specs.Clears.{clear_refused, clear_done}
 use Rattle.std.proofs.Common.{◌≡◌, ℕ, ◌+◌, ◌-◌, ◌*◌, ◌<◌, ◌≤◌, length, ◌/◌, ◌%◌, Bool, true, false, nat_eq, nat_lt, List, [], ◌∷◌, ◌++◌, slice_index_or, slice_set, bit_and, bit_or, Fits, w8, w32, w64, Bor, MutBor}
 use Rattle.host.specs.Calls.{Clears}
 use Rattle.engine.proofs.clear.Goals as goal
 
 pub returns-then-listed : goal.returns-then-listed
-returns-then-listed c = clear-done (tables c.args.code.now c.args.places.now c.args.rows.now c.args.starts.now) (mem c.args.stacks.now c.args.heap.now c.args.text.now c.args.output.now) (sym c.listed.ensures ∙ c.if-listed.true) c.clear-z.ensures c.fresh.ensures
+returns-then-listed c = clear_done (tables c.args.code.now c.args.places.now c.args.rows.now c.args.starts.now) (mem c.args.stacks.now c.args.heap.now c.args.text.now c.args.output.now) (sym c.listed.ensures ∙ c.if-listed.true) c.clear-z.ensures c.fresh.ensures

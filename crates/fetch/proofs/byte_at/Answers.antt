@@ -2,14 +2,14 @@ use Prim.Native.Nat.{◌+◌}
 use native.Mathlib.Omega.{arith}
 use lib.ListN.{get_or}
 use mathlib.Core.Path.{sym, ◌∙◌}
-use Rattle.value.specs.Lists.{row-past, row-at}
+use Rattle.value.specs.Lists.{row_past, row_at_lem}
 use Rattle.fetch.proofs.byte_at.Goals as goal
 
 pub returns-then-n-at : goal.returns-then-n-at
-returns-then-n-at c = let a = c.args in (sym (row-past a.n (λ i. get_or a.code.now i 0) (a.at + a.p) 0 (omega arith)), omega arith)
+returns-then-n-at c = let a = c.args in (sym (row_past a.n (λ i. get_or a.code.now i 0) (a.at + a.p) 0 (omega arith)), omega arith)
 
 pub returns-then-n-at-2 : goal.returns-then-n-at-2
-returns-then-n-at-2 c = let a = c.args in (sym (row-past a.n (λ i. get_or a.code.now i 0) (a.at + a.p) 0 (omega arith)), omega arith)
+returns-then-n-at-2 c = let a = c.args in (sym (row_past a.n (λ i. get_or a.code.now i 0) (a.at + a.p) 0 (omega arith)), omega arith)
 
 pub returns : goal.returns
-returns c = let a = c.args in (c.wide.ensures.0 ∙ sym (row-at a.n (λ i. get_or a.code.now i 0) (a.at + a.p) 0 (omega arith)), c.wide.ensures.1)
+returns c = let a = c.args in (c.wide.ensures.0 ∙ sym (row_at_lem a.n (λ i. get_or a.code.now i 0) (a.at + a.p) 0 (omega arith)), c.wide.ensures.1)

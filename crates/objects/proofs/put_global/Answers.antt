@@ -1,17 +1,17 @@
 use native.Mathlib.Omega.{arith}
 use mathlib.Core.Path.{refl}
-use Rattle.texts.specs.Sources.{sourceBytes, stores_of}
-use Rattle.objects.specs.Globals.{value_there, value-full, value-long, value-new}
+use Rattle.texts.specs.Sources.{source_bytes, stores_of}
+use Rattle.objects.specs.Globals.{value_there, value_full, value_long, value_new}
 use Rattle.objects.proofs.put_global.Goals as goal
 
 pub returns-then-count-ge-GLOBAL_LIMIT : goal.returns-then-count-ge-GLOBAL_LIMIT
-returns-then-count-ge-GLOBAL_LIMIT c = value-full c.args.z c.args.heap.now c.args.m c.args.text.now c.requires.sized c.requires.n_in_bounds.1 c.requires.n_in_bounds.2 (sourceBytes (stores_of c.args.code.now c.args.n c.args.text.now c.args.m) c.args.buffer.now c.args.name) c.find_name.result c.find_name.ensures c.args.v c.in_default.is c.if-count-ge-GLOBAL_LIMIT.true
+returns-then-count-ge-GLOBAL_LIMIT c = value_full c.args.z c.args.heap.now c.args.m c.args.text.now c.requires.sized c.requires.n_in_bounds.1 c.requires.n_in_bounds.2 (source_bytes (stores_of c.args.code.now c.args.n c.args.text.now c.args.m) c.args.buffer.now c.args.name) c.find_name.result c.find_name.ensures c.args.v c.in_default.is c.if-count-ge-GLOBAL_LIMIT.true
 
 pub returns-then-m-size_of : goal.returns-then-m-size_of
-returns-then-m-size_of c = value-long c.args.z c.args.heap.now c.args.m c.args.text.now c.requires.sized c.requires.n_in_bounds.1 c.requires.n_in_bounds.2 (sourceBytes (stores_of c.args.code.now c.args.n c.args.text.now c.args.m) c.args.buffer.now c.args.name) c.find_name.result c.find_name.ensures c.args.v c.in_default.is c.if-count-ge-GLOBAL_LIMIT.false (omega (arith, c.if-m-size_of.true, c.requires.n_in_bounds.1, c.size_of.ensures.size c.args.code.now c.args.text.now c.args.buffer.now c.requires.n_in_bounds.0 (omega (arith, c.requires.n_in_bounds.1, c.requires.n_in_bounds.2)) refl))
+returns-then-m-size_of c = value_long c.args.z c.args.heap.now c.args.m c.args.text.now c.requires.sized c.requires.n_in_bounds.1 c.requires.n_in_bounds.2 (source_bytes (stores_of c.args.code.now c.args.n c.args.text.now c.args.m) c.args.buffer.now c.args.name) c.find_name.result c.find_name.ensures c.args.v c.in_default.is c.if-count-ge-GLOBAL_LIMIT.false (omega (arith, c.if-m-size_of.true, c.requires.n_in_bounds.1, c.size_of.ensures.size c.args.code.now c.args.text.now c.args.buffer.now c.requires.n_in_bounds.0 (omega (arith, c.requires.n_in_bounds.1, c.requires.n_in_bounds.2)) refl))
 
 pub returns-in_default : goal.returns-in_default
-returns-in_default c = value-new c.args.z c.args.heap.now c.args.m c.args.text.now c.requires.sized c.requires.n_in_bounds.1 c.requires.n_in_bounds.2 (sourceBytes (stores_of c.args.code.now c.args.n c.args.text.now c.args.m) c.args.buffer.now c.args.name) c.find_name.result c.find_name.ensures c.args.v c.in_default.is _ _ _ c.if-count-ge-GLOBAL_LIMIT.false (omega (arith, c.if-m-size_of.false, c.requires.n_in_bounds.1, c.size_of.ensures.size c.args.code.now c.args.text.now c.args.buffer.now c.requires.n_in_bounds.0 (omega (arith, c.requires.n_in_bounds.1, c.requires.n_in_bounds.2)) refl)) c.lay_row-e.ensures
+returns-in_default c = value_new c.args.z c.args.heap.now c.args.m c.args.text.now c.requires.sized c.requires.n_in_bounds.1 c.requires.n_in_bounds.2 (source_bytes (stores_of c.args.code.now c.args.n c.args.text.now c.args.m) c.args.buffer.now c.args.name) c.find_name.result c.find_name.ensures c.args.v c.in_default.is _ _ _ c.if-count-ge-GLOBAL_LIMIT.false (omega (arith, c.if-m-size_of.false, c.requires.n_in_bounds.1, c.size_of.ensures.size c.args.code.now c.args.text.now c.args.buffer.now c.requires.n_in_bounds.0 (omega (arith, c.requires.n_in_bounds.1, c.requires.n_in_bounds.2)) refl)) c.lay_row-e.ensures
 
 pub returns : goal.returns
-returns c = value_there c.args.z c.args.heap.now c.args.m c.args.text.now c.requires.sized c.requires.n_in_bounds.1 c.requires.n_in_bounds.2 (sourceBytes (stores_of c.args.code.now c.args.n c.args.text.now c.args.m) c.args.buffer.now c.args.name) c.find_name.result c.find_name.ensures c.args.v _ _ c.in-At.is c.write.ensures
+returns c = value_there c.args.z c.args.heap.now c.args.m c.args.text.now c.requires.sized c.requires.n_in_bounds.1 c.requires.n_in_bounds.2 (source_bytes (stores_of c.args.code.now c.args.n c.args.text.now c.args.m) c.args.buffer.now c.args.name) c.find_name.result c.find_name.ensures c.args.v _ _ c.in-At.is c.write.ensures

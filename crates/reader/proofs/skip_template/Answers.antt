@@ -1,4 +1,4 @@
-use Rattle.reader.specs.Laws.{template-got, template-missing}
+use Rattle.reader.specs.Laws.{template_got, template_missing}
 use Rattle.reader.proofs.skip_template.Goals as goal
 
 pub returns-in_default-read_tail : goal.returns-in_default-read_tail
@@ -7,7 +7,7 @@ returns-in_default-read_tail c =
     let g = c.in-Next.ensures in
     let f = c.in_default-read_tail.ensures in
     let a = c.args in
-    template-missing a.s.now a.own a.count a.c.at _ _ _ _ h _ _ g.reads f
+    template_missing a.s.now a.own a.count a.c.at _ _ _ _ h _ _ g.reads f
 
 pub returns-in-Code : goal.returns-in-Code
 returns-in-Code c =
@@ -15,4 +15,4 @@ returns-in-Code c =
     let g = c.in-Next.ensures in
     let f = c.in-Code.ensures in
     let a = c.args in
-    record { value = _; reads = template-got a.s.now a.own a.count a.c.at _ _ _ _ h _ _ _ _ _ g.reads f }
+    record { value = _; reads = template_got a.s.now a.own a.count a.c.at _ _ _ _ h _ _ _ _ _ g.reads f }

@@ -1,10 +1,10 @@
 use native.Mathlib.Omega.{arith}
 use lib.ListN.{length-set}
-use Rattle.texts.specs.Overwrite.{copy_more, copy-all}
+use Rattle.texts.specs.Overwrite.{copy_more, copy_all}
 use Rattle.texts.proofs.copy.Goals as goal
 
 pub loop-i-preserved : goal.loop-i-preserved
 loop-i-preserved c = (omega arith, simp length-set c.loop-i.invariant.1, copy_more c.args.dest.now c.loop-i.dest c.args.bytes.now c.args.at c.loop-i.i (omega arith) (omega arith) c.loop-i.invariant.2)
 
 pub returns : goal.returns
-returns c = copy-all c.args.dest.now c.loop-i.dest c.args.bytes.now c.args.at c.loop-i.i (omega arith) c.loop-i.invariant.2
+returns c = copy_all c.args.dest.now c.loop-i.dest c.args.bytes.now c.args.at c.loop-i.i (omega arith) c.loop-i.invariant.2

@@ -1,6 +1,6 @@
-use Rattle.value.specs.Words.{setValue}
+use Rattle.value.specs.Words.{set_value}
 use Rattle.value.proofs.write.Goals as goal
 
 pub returns : goal.returns
-unfolding setValue
+unfolding set_value
 returns c = rw c.encode-e.ensures

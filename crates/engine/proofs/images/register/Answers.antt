@@ -1,26 +1,26 @@
 use borrow.Author.Rules.{rules}
 use Rattle.heapops.specs.Turns.{mem}
 use Rattle.finish.specs.Parts.{tables}
-use Rattle.host.specs.Lent.{lent-if, not-lent, lent-sized}
-use Rattle.engine.specs.Registers.{register-10, register-zero, register-32, register-added}
+use Rattle.host.specs.Lent.{lent_if, not_lent, lent_sized}
+use Rattle.engine.specs.Registers.{register_10, register_zero, register_32, register_added}
 use native.Mathlib.Omega.{arith}
 use Rattle.std.proofs.Common.{◌≡◌, ℕ, ◌+◌, ◌-◌, ◌*◌, ◌<◌, ◌≤◌, length, ◌/◌, ◌%◌, Bool, true, false, nat_eq, nat_lt, List, [], ◌∷◌, ◌++◌, slice_index_or, slice_set, bit_and, bit_or, Fits, w8, w32, w64, Bor, MutBor}
 use Rattle.machine.specs.Host as Host
-use Rattle.host.specs.Calls.{Called, answerOfNumbered, countsOfNumbered}
+use Rattle.host.specs.Calls.{Called, answer_of_numbered, counts_of_numbered}
 use Rattle.engine.specs.Registers.{added}
 use Rattle.engine.proofs.images.register.Goals as goal
 
 pub returns-then-c-image : goal.returns-then-c-image
-returns-then-c-image c = register-10 c.args.image c.args.template (lent-if c.lent.ensures c.if-lent.true) c.if-c-image.true
+returns-then-c-image c = register_10 c.args.image c.args.template (lent_if c.lent.ensures c.if-lent.true) c.if-c-image.true
 
 pub returns-then-template-eq0 : goal.returns-then-template-eq0
-returns-then-template-eq0 c = register-zero c.args.image c.args.template (lent-if c.lent.ensures c.if-lent.true) (omega arith) c.if-template-eq0.true
+returns-then-template-eq0 c = register_zero c.args.image c.args.template (lent_if c.lent.ensures c.if-lent.true) (omega arith) c.if-template-eq0.true
 
 pub returns-then-template_count-template : goal.returns-then-template_count-template
-returns-then-template_count-template c = register-32 c.args.image c.args.template (lent-if c.lent.ensures c.if-lent.true) (omega arith) c.if-template-eq0.false (c.template_count.ensures c.args.code.now c.args.places.now) c.if-template_count-template.true
+returns-then-template_count-template c = register_32 c.args.image c.args.template (lent_if c.lent.ensures c.if-lent.true) (omega arith) c.if-template-eq0.false (c.template_count.ensures c.args.code.now c.args.places.now) c.if-template_count-template.true
 
 pub add_function-r-requires : goal.add_function-r-requires
-add_function-r-requires c = lent-sized (lent-if {c = c.args.c} {g = tables c.args.code.now c.args.places.now c.args.rows.now c.args.starts.now} {m = mem c.args.stacks.now c.args.heap.now c.args.text.now c.args.output.now} c.lent.ensures c.if-lent.true)
+add_function-r-requires c = lent_sized (lent_if {c = c.args.c} {g = tables c.args.code.now c.args.places.now c.args.rows.now c.args.starts.now} {m = mem c.args.stacks.now c.args.heap.now c.args.text.now c.args.output.now} c.lent.ensures c.if-lent.true)
 
 pub returns-then-lent : goal.returns-then-lent
-returns-then-lent c = register-added c.args.image c.args.template (lent-if c.lent.ensures c.if-lent.true) (omega arith) c.if-template-eq0.false (c.template_count.ensures c.args.code.now c.args.places.now) (omega arith) c.add_function-r.ensures c.settle.ensures
+returns-then-lent c = register_added c.args.image c.args.template (lent_if c.lent.ensures c.if-lent.true) (omega arith) c.if-template-eq0.false (c.template_count.ensures c.args.code.now c.args.places.now) (omega arith) c.add_function-r.ensures c.settle.ensures

@@ -1,13 +1,13 @@
-use Rattle.machine.specs.Instruction.{createArray}
-use Rattle.heapops.specs.Makes.{array-refused, array_made}
-use Rattle.heapops.specs.Follows.{fetch-fails}
+use Rattle.machine.specs.Instruction.{create_array}
+use Rattle.heapops.specs.Makes.{array_refused, array_made}
+use Rattle.heapops.specs.Follows.{fetch_fails}
 use Rattle.heapops.proofs.create.create_array.Goals as goal
 
 pub returns-in_default : goal.returns-in_default
-returns-in_default c = λ o. fetch-fails c.fetch.ensures createArray (λ s h. h) c.requires.runs c.in_default.is c.past_end.ensures c.failed.ensures
+returns-in_default c = λ o. fetch_fails c.fetch.ensures create_array (λ s h. h) c.requires.runs c.in_default.is c.past_end.ensures c.failed.ensures
 
 pub returns-in-Refused : goal.returns-in-Refused
-returns-in-Refused c = array-refused c.args.x c.args.c c.args.code.now c.args.stacks.now c.args.heap.now c.add_array.new.heap c.args.text.now c.add_array.new.text c.fetch.ensures c.requires.runs c.in-Got.is c.minus-from.ensures c.lesser-given.ensures c.add_array.ensures c.in-Refused.is c.refused.ensures
+returns-in-Refused c = array_refused c.args.x c.args.c c.args.code.now c.args.stacks.now c.args.heap.now c.add_array.new.heap c.args.text.now c.add_array.new.text c.fetch.ensures c.requires.runs c.in-Got.is c.minus-from.ensures c.lesser-given.ensures c.add_array.ensures c.in-Refused.is c.refused.ensures
 
 pub returns-in-Went : goal.returns-in-Went
 returns-in-Went c = array_made c.args.x c.args.c c.args.code.now c.args.stacks.now c.args.heap.now c.add_array.new.heap c.args.text.now c.add_array.new.text c.fetch.ensures c.requires.runs c.in-Got.is c.minus-from.ensures c.lesser-given.ensures c.add_array.ensures c.truncate-f.ensures c.in-Went.is c.push-r.ensures c.settle_push.ensures

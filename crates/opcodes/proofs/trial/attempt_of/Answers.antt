@@ -1,5 +1,5 @@
-use Rattle.opcodes.specs.Trials.{attempt-is}
+use Rattle.opcodes.specs.Trials.{attempt_is}
 use Rattle.opcodes.proofs.trial.attempt_of.Goals as goal
 
 pub returns : goal.returns
-returns c = attempt-is c.args.op c.args.b c.args.n c.args.m c.requires.1 c.requires.2 c.place_operands.ensures c.find-x.ensures.known c.perform-t.ensures c.attempted.ensures
+returns c = attempt_is c.args.op c.args.b c.args.n c.args.m c.requires.1 c.requires.2 c.place_operands.ensures c.find-x.ensures.known c.perform-t.ensures c.attempted.ensures

@@ -1,6 +1,6 @@
 use Rattle.std.proofs.Common.{arith}
-use Rattle.reach.specs.Elements.{whole-index}
+use Rattle.reach.specs.Elements.{whole_index}
 use Rattle.reach.proofs.elements.index_of.Goals as goal
 
 pub returns-then-v-eq0 : goal.returns-then-v-eq0
-returns-then-v-eq0 c = whole-index _ (omega arith) (omega arith)
+returns-then-v-eq0 c = whole_index _ (omega arith) (omega arith)

@@ -1,6 +1,6 @@
 use Rattle.std.proofs.Common.{arith}
-use Rattle.reach.specs.Elements.{digits-row}
+use Rattle.reach.specs.Elements.{digits_row}
 use Rattle.reach.proofs.elements.row_is_element.Goals as goal
 
 pub returns : goal.returns
-returns c = λ q. digits-row c.index_of.ensures c.in-Index.is (omega (arith, c.if-heap-k.false)) c.locate-p.ensures c.requires.0 (c.are_digits.ensures q)
+returns c = λ q. digits_row c.index_of.ensures c.in-Index.is (omega (arith, c.if-heap-k.false)) c.locate-p.ensures c.requires.0 (c.are_digits.ensures q)

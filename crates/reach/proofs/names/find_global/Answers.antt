@@ -1,6 +1,6 @@
 use Rattle.reach.specs.Distinct.{guessed}
-use Rattle.reach.specs.Names.{row-name}
+use Rattle.reach.specs.Names.{row_name}
 use Rattle.reach.proofs.names.find_global.Goals as goal
 
 pub returns-then-row_is : goal.returns-then-row_is
-returns-then-row_is c = guessed c.if-guess-count.true (row-name c.args.guess (c.row_is.ensures c.if-row_is.true))
+returns-then-row_is c = guessed c.if-guess-count.true (row_name c.args.guess (c.row_is.ensures c.if-row_is.true))

@@ -1,5 +1,5 @@
-use Rattle.run.specs.Runs.{whole_ready, whole_code, whole-sized, whole-text, whole-output}
-use Rattle.run.specs.Advances.{sped-whole, advances-went, advances-ended, advances-refused}
+use Rattle.run.specs.Runs.{whole_ready, whole_code, whole_sized, whole_text, whole_output}
+use Rattle.run.specs.Advances.{sped_whole, advances_went, advances_ended, advances_refused}
 use Rattle.run.proofs.advance.proceed.Goals as goal
 
 pub speed-q-requires-clause-ready : goal.speed-q-requires-clause-ready
@@ -9,22 +9,22 @@ pub speed-q-requires-clause-code_in_bounds : goal.speed-q-requires-clause-code_i
 speed-q-requires-clause-code_in_bounds c = whole_code c.requires.whole
 
 pub speed-q-requires-clause-sized : goal.speed-q-requires-clause-sized
-speed-q-requires-clause-sized c = whole-sized c.requires.whole
+speed-q-requires-clause-sized c = whole_sized c.requires.whole
 
 pub speed-q-requires-clause-text_le_text_limit : goal.speed-q-requires-clause-text_le_text_limit
-speed-q-requires-clause-text_le_text_limit c = whole-text c.requires.whole
+speed-q-requires-clause-text_le_text_limit c = whole_text c.requires.whole
 
 pub turn-t-requires-clause-code_in_bounds : goal.turn-t-requires-clause-code_in_bounds
-turn-t-requires-clause-code_in_bounds c = whole_code (sped-whole c.speed-q.ensures c.requires.whole)
+turn-t-requires-clause-code_in_bounds c = whole_code (sped_whole c.speed-q.ensures c.requires.whole)
 
 pub returns-in-Went : goal.returns-in-Went
-returns-in-Went c = rw c.came.ensures (advances-went c.speed-q.ensures c.current-x.ensures.known c.turn-t.ensures c.turn-t.auto.stacks c.turn-t.auto.heap c.turn-t.auto.text c.turn-t.auto.output c.in-Went.is)
+returns-in-Went c = rw c.came.ensures (advances_went c.speed-q.ensures c.current-x.ensures.known c.turn-t.ensures c.turn-t.auto.stacks c.turn-t.auto.heap c.turn-t.auto.text c.turn-t.auto.output c.in-Went.is)
 
 pub returns-in-Ended : goal.returns-in-Ended
-returns-in-Ended c = rw c.came-in-Ended.ensures (advances-ended c.speed-q.ensures c.current-x.ensures.known c.turn-t.ensures c.turn-t.auto.stacks c.turn-t.auto.heap c.turn-t.auto.text c.turn-t.auto.output c.in-Ended.is)
+returns-in-Ended c = rw c.came-in-Ended.ensures (advances_ended c.speed-q.ensures c.current-x.ensures.known c.turn-t.ensures c.turn-t.auto.stacks c.turn-t.auto.heap c.turn-t.auto.text c.turn-t.auto.output c.in-Ended.is)
 
 pub returns-in-Refused : goal.returns-in-Refused
-returns-in-Refused c = rw c.came-in-Refused.ensures (advances-refused c.speed-q.ensures c.current-x.ensures.known c.turn-t.ensures c.turn-t.auto.stacks c.turn-t.auto.heap c.turn-t.auto.text c.turn-t.auto.output c.in-Refused.is)
+returns-in-Refused c = rw c.came-in-Refused.ensures (advances_refused c.speed-q.ensures c.current-x.ensures.known c.turn-t.ensures c.turn-t.auto.stacks c.turn-t.auto.heap c.turn-t.auto.text c.turn-t.auto.output c.in-Refused.is)
 
 pub turn-t-requires-clause-output_le_output_limit : goal.turn-t-requires-clause-output_le_output_limit
-turn-t-requires-clause-output_le_output_limit c = whole-output (sped-whole c.speed-q.ensures c.requires.whole)
+turn-t-requires-clause-output_le_output_limit c = whole_output (sped_whole c.speed-q.ensures c.requires.whole)

@@ -1,9 +1,9 @@
 use Rattle.machine.specs.Program.{next}
-use Rattle.outcome.specs.Meets.{after-pop, pop-fails, goes_on}
+use Rattle.outcome.specs.Meets.{after_pop, pop_fails, goes_on}
 use Rattle.stackops.proofs.locals.pop.Goals as goal
 
 pub returns-in_default : goal.returns-in_default
-returns-in_default c = pop-fails (λ v. next) c.pop.ensures c.in_default.is c.underflow.ensures
+returns-in_default c = pop_fails (λ v. next) c.pop.ensures c.in_default.is c.underflow.ensures
 
 pub returns : goal.returns
-returns c = after-pop (λ v. next) c.pop.ensures c.in-Took.is (goes_on c.went.ensures)
+returns c = after_pop (λ v. next) c.pop.ensures c.in-Took.is (goes_on c.went.ensures)
