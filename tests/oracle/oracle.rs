@@ -97,7 +97,7 @@ const HEAD: &str = "\
 use Rattle.std.specs.Prelude.{◌≡◌, refl, true, false, List, [], ◌∷◌}
 use Rattle.machine.specs.Value.{Value, Home}
 use Rattle.machine.specs.Act.{Given}
-use Rattle.machine.specs.Run.{stepLimit}
+use Rattle.machine.specs.Run.{step_limit}
 use Rattle.machine.specs.Host.{Call}
 use Rattle.oracle.specs.Summary.{hex, agrees}
 ";
@@ -110,7 +110,7 @@ fn module(samples: &[(Sample, Vec<u8>)]) -> String {
         for c in calls(sample) {
             write!(s, "{}\n    ∷ ", c).unwrap();
         }
-        write!(s, "[]\n\nsample{} : agrees calls{} {} ≡ true\nunfolding stepLimit\nsample{} = refl\n", n, n, hex(bytes), n).unwrap();
+        write!(s, "[]\n\nsample{} : agrees calls{} {} ≡ true\nunfolding step_limit\nsample{} = refl\n", n, n, hex(bytes), n).unwrap();
     }
     s
 }
