@@ -1,3 +1,4 @@
+pub mod Bench
 pub mod NumberText
 pub mod Reading
 pub mod Images

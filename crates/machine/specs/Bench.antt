@@ -1,6 +1,5 @@
 -- The bench sheet of document 01: its starred rows as one theorem, its sample image, and the other rows that compute. Assumes nothing.
 use Rattle.std.specs.Prelude.{◌≡◌, refl, List, [], ◌∷◌, ◌++◌, ℕ, zero, suc, ◌+◌, ◌-◌, ◌*◌, ◌^◌, length, replicate}
-use Rattle.std.proofs.Common.{ap, ap₂, ◌∙◌, arith}
 use Rattle.machine.specs.Ascii.{ascii}
 use Rattle.machine.specs.Number as N
 use Rattle.machine.specs.NumberText.{original_text}
@@ -12,7 +11,7 @@ use Rattle.machine.specs.Fields.{set_operands}
 use Rattle.machine.specs.Act.{apply, Act}
 use Rattle.machine.specs.Program.{exec, make, next, End, How, went}
 use Rattle.machine.specs.Instruction.{create_array, set_property, instruction}
-use Rattle.machine.specs.Run.{Result, Ran, step, after, steps, go_on, step_limit, end_number, end_value}
+use Rattle.machine.specs.Run.{Result, Ran, step_limit, end_number, end_value}
 use Rattle.machine.specs.Host.{Call, Answer, perform, leaves}
 use Rattle.machine.specs.Opcodes.{Row, row, row_of}
 
@@ -254,25 +253,6 @@ pub record Limited (r : Ran) (n : ℕ) : Type 0 where
   pub made : r.made ≡ n
   pub result : r.result ≡ Result.ended (End.failed JsVmError.execution_limit_exceeded)
 
-repeats : (s : State) → (step s).outcome.how ≡ went → after s (step s).outcome ≡ s → (k n : ℕ) → Limited (steps k n s) (k + n)
-repeats s w e zero n = record { made = omega arith; result = refl }
-repeats s w e (suc k) n =
-    let h = repeats s w e k (n + 1) in
-    let s' = after s (step s).outcome in
-    let same : go_on (step s).outcome.how (n + 1) s' (steps k (n + 1) s') ≡ steps k (n + 1) s
-    = ap (λ (x : How). go_on x (n + 1) s' (steps k (n + 1) s')) w ∙ ap (λ (x : State). steps k (n + 1) x) e in
-    let m : k + (n + 1) ≡ suc k + n = omega arith in
-    record { made = ap (λ (r : Ran). r.made) same ∙ h.made ∙ m; result = ap (λ (r : Ran). r.result) same ∙ h.result }
-
--- Code hex 28 00 00, a jump to itself: 12 after 100,000 steps.
-abbrev jumping : State
+-- Code hex 28 00 00, a jump to itself: 12 after 100,000 steps (proofs/Bench, `jumps`).
+abbrev pub jumping : State
 jumping = leaves fresh (Call.load (coded (0x28 ∷ 0x00 ∷ 0x00 ∷ [])) ∷ [])
-
-limit_is : step_limit + 0 ≡ 100000
-unfolding step_limit
-limit_is = refl
-
-pub jumps : (perform (Call.run 0) jumping).answer ≡ Answer.ran (Result.ended (End.failed JsVmError.execution_limit_exceeded)) 100000
-jumps =
-    let h = repeats (apply (Act.push_frame 0 0 []) jumping) refl refl step_limit 0 in
-    ap₂ (λ (e : Result) (n : ℕ). Answer.ran e n) h.result (h.made ∙ limit_is)
