@@ -27,7 +27,7 @@ pub enum Fetched {
 
 pub fn find(rows: &[u16], starts: &[u16], images: usize, i: u64, t: u64) -> Running
     ensures known { Known rows.now starts.now images result }
-    ensures image_value { (result.image ≡ i) × (result.template ≡ t) }
+    ensures place { (result.image ≡ i) × (result.template ≡ t) }
 {
     Running {
         image: i,

@@ -208,8 +208,8 @@ fn append(
 ) -> Loaded
     requires { Fitting (record { code = code.now; places = places.old; rows = rows.old; starts = starts.old }) counts image.now }
     ensures { AppendSays
-        (record { code = code.entry.now; places = places.old; rows = rows.old; starts = starts.old })
-        (record { code = code.exit.now; places = places.new; rows = rows.new; starts = starts.new })
+        (record { code = code.old; places = places.old; rows = rows.old; starts = starts.old })
+        (record { code = code.new; places = places.new; rows = rows.new; starts = starts.new })
         counts image.now result }
 {
     let at = counts.code;
@@ -258,8 +258,8 @@ pub fn load(
     image: &[u8],
 ) -> Loaded
     ensures { Loads
-        (record { code = code.entry.now; places = places.old; rows = rows.old; starts = starts.old })
-        (record { code = code.exit.now; places = places.new; rows = rows.new; starts = starts.new })
+        (record { code = code.old; places = places.old; rows = rows.old; starts = starts.old })
+        (record { code = code.new; places = places.new; rows = rows.new; starts = starts.new })
         counts image.now result }
 {
     if listed(code.len(), places.len(), rows.len(), starts.len()) {

@@ -27,8 +27,8 @@ fn with_handlers(d: Depths, n: usize, h: usize, p: usize) -> Depths
 
 pub fn jump(x: Running, d: Depths, i: usize, code: &[u8], n: usize) -> Quick
     requires { Operand x n code.now d i }
-    ensures by_index { (w : List ℕ) → Ready d w → Runs x d w → Quickly (Coded x n code.now) Jump d w result w }
-    ensures by_index_2 { (w : List ℕ) → Stays d w result w }
+    ensures quickly { (w : List ℕ) → Ready d w → Runs x d w → Quickly (Coded x n code.now) Jump d w result w }
+    ensures stays { (w : List ℕ) → Stays d w result w }
 {
     Quick::Went(with_ip(d, i))
 }
@@ -164,8 +164,8 @@ pub fn enter_try(
 }
 
 pub fn leave_try(d: Depths) -> Quick
-    ensures by_index { (w : List ℕ) → Ready d w → Quickly Any LeaveTry d w result w }
-    ensures by_index_2 { (w : List ℕ) → Stays d w result w }
+    ensures quickly { (w : List ℕ) → Ready d w → Quickly Any LeaveTry d w result w }
+    ensures stays { (w : List ℕ) → Stays d w result w }
 {
     let h = d.handlers;
     if h == 0 {

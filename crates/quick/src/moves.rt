@@ -97,8 +97,8 @@ pub fn store_local(
 }
 
 pub fn pop(d: Depths) -> Quick
-    ensures by_index { (w : List ℕ) → Ready d w → Quickly Any Pop d w result w }
-    ensures by_index_2 { (w : List ℕ) → Stays d w result w }
+    ensures quickly { (w : List ℕ) → Ready d w → Quickly Any Pop d w result w }
+    ensures stays { (w : List ℕ) → Stays d w result w }
 {
     let c = d.operands;
     if c == 0 {

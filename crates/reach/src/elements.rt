@@ -198,7 +198,7 @@ pub fn load_index(c: Counts, guess: usize, stacks: &mut [u64], heap: &[u64], tex
     requires ready { Ready c.depths stacks.old }
     requires sized { Sized c.sizes heap.now }
     requires text_le_text_limit { (c.text ≤ text_limit) × (length text.now ≡ text_limit) }
-    ensures by_index { (code : List ℕ) → c.code ≤ length code → Quickly (Sure (Distinct c.sizes heap.now c.text text.now) (Objects c.code code c.text text.now c.sizes heap.now)) LoadIndex c.depths stacks.old (quick_in result) stacks.new }
+    ensures quickly { (code : List ℕ) → c.code ≤ length code → Quickly (Sure (Distinct c.sizes heap.now c.text text.now) (Objects c.code code c.text text.now c.sizes heap.now)) LoadIndex c.depths stacks.old (quick_in result) stacks.new }
     ensures stays { Stays c.depths stacks.old (quick_in result) stacks.new }
 {
     let d = c.depths;
@@ -237,7 +237,7 @@ pub fn store_index(
     requires ready { Ready c.depths stacks.now }
     requires sized { Sized c.sizes heap.old }
     requires text_le_text_limit { (c.text ≤ text_limit) × (length text.now ≡ text_limit) }
-    ensures by_index { (code o : List ℕ) → c.code ≤ length code → Reaches (Sure (Distinct c.sizes heap.old c.text text.now) (Loaded c.code code)) StoreIndex c (mem stacks.now heap.old text.now o) (quick_in result) (mem stacks.now heap.new text.now o) }
+    ensures reaches { (code o : List ℕ) → c.code ≤ length code → Reaches (Sure (Distinct c.sizes heap.old c.text text.now) (Loaded c.code code)) StoreIndex c (mem stacks.now heap.old text.now o) (quick_in result) (mem stacks.now heap.new text.now o) }
     ensures stays { Stays c.depths stacks.now (quick_in result) stacks.now }
 {
     let d = c.depths;

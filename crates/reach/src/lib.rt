@@ -62,7 +62,7 @@ fn execute(
     requires code_in_bounds { c.code ≤ length code.now }
     requires sized { Sized c.sizes heap.old }
     requires text_le_text_limit { (c.text ≤ text_limit) × (length text.now ≡ text_limit) }
-    ensures by_index { (rows starts o : List ℕ) → Reaches (Sure (Distinct c.sizes heap.old c.text text.now) (Ground x c (tables code.now places.now rows starts))) (instruction op) c (mem stacks.old heap.old text.now o) (quick_in result) (mem stacks.new heap.new text.now o) }
+    ensures reaches { (rows starts o : List ℕ) → Reaches (Sure (Distinct c.sizes heap.old c.text text.now) (Ground x c (tables code.now places.now rows starts))) (instruction op) c (mem stacks.old heap.old text.now o) (quick_in result) (mem stacks.new heap.new text.now o) }
     ensures stays { Stays c.depths stacks.old (quick_in result) stacks.new }
 {
     match op {
@@ -93,7 +93,7 @@ pub fn step(
     requires inside { Inside x c.code code.now }
     requires sized { Sized c.sizes heap.old }
     requires text_le_text_limit { (c.text ≤ text_limit) × (length text.now ≡ text_limit) }
-    ensures by_index { (rows starts o : List ℕ) → ReachStep (Sure (Distinct c.sizes heap.old c.text text.now) (Ground x c (tables code.now places.now rows starts))) c (mem stacks.old heap.old text.now o) (quick_in result) (mem stacks.new heap.new text.now o) }
+    ensures reaches { (rows starts o : List ℕ) → ReachStep (Sure (Distinct c.sizes heap.old c.text text.now) (Ground x c (tables code.now places.now rows starts))) c (mem stacks.old heap.old text.now o) (quick_in result) (mem stacks.new heap.new text.now o) }
     ensures stays { Stays c.depths stacks.old (quick_in result) stacks.new }
 {
     let d = c.depths;

@@ -37,7 +37,7 @@ pub fn store_global(
     requires code_in_bounds { c.code ≤ length code.now }
     requires sized { Sized c.sizes heap.old }
     requires text_le_text_limit { (c.text ≤ text_limit) × (length text.now ≡ text_limit) }
-    ensures by_index { (o : List ℕ) → Reaches (Sure (Distinct c.sizes heap.old c.text text.now) (Constants x c.code code.now places.now)) StoreGlobal c (mem stacks.now heap.old text.now o) (quick_in result) (mem stacks.now heap.new text.now o) }
+    ensures reaches { (o : List ℕ) → Reaches (Sure (Distinct c.sizes heap.old c.text text.now) (Constants x c.code code.now places.now)) StoreGlobal c (mem stacks.now heap.old text.now o) (quick_in result) (mem stacks.now heap.new text.now o) }
     ensures stays { Stays c.depths stacks.now (quick_in result) stacks.now }
 {
     let d = c.depths;
@@ -84,7 +84,7 @@ pub fn store_property(
     requires code_in_bounds { c.code ≤ length code.now }
     requires sized { Sized c.sizes heap.old }
     requires text_le_text_limit { (c.text ≤ text_limit) × (length text.now ≡ text_limit) }
-    ensures by_index { (o : List ℕ) → Reaches (Sure (Distinct c.sizes heap.old c.text text.now) (Constants x c.code code.now places.now)) StoreProperty c (mem stacks.now heap.old text.now o) (quick_in result) (mem stacks.now heap.new text.now o) }
+    ensures reaches { (o : List ℕ) → Reaches (Sure (Distinct c.sizes heap.old c.text text.now) (Constants x c.code code.now places.now)) StoreProperty c (mem stacks.now heap.old text.now o) (quick_in result) (mem stacks.now heap.new text.now o) }
     ensures stays { Stays c.depths stacks.now (quick_in result) stacks.now }
 {
     let d = c.depths;

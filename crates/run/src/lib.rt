@@ -147,7 +147,7 @@ pub fn run_loop(
     output: &mut [u8],
 ) -> Ran
     requires { Whole c (tables code.now places.now rows.now starts.now) (mem stacks.old heap.old text.old output.old) (ground_of c (tables code.now places.now rows.now starts.now)) }
-    ensures output_after { Unique (state_in c (tables code.now places.now rows.now starts.now) (mem stacks.old heap.old text.old output.old))
+    ensures ran { Unique (state_in c (tables code.now places.now rows.now starts.now) (mem stacks.old heap.old text.old output.old))
         → ran_of result c (tables code.now places.now rows.now starts.now) (mem stacks.new heap.new text.new output.new)
         ≡ run_of R.max_steps 0 (state_in c (tables code.now places.now rows.now starts.now) (mem stacks.old heap.old text.old output.old)) }
     ensures leaves { Leaves c result.counts (tables code.now places.now rows.now starts.now) (mem stacks.new heap.new text.new output.new) }

@@ -321,8 +321,8 @@ pub fn pop_frame(d: Depths, stacks: &[u64]) -> Depths
 // The newest handler is taken off, with what stands above the operands and frames that it saved.
 pub fn unwind(d: Depths, h: Handler, stacks: &[u64]) -> Depths
     requires ready { Ready d stacks.now }
-    requires fact { d.handlers ≡ 0 → ⊥ }
-    requires h_value { handler_of h ≡ handler_at stacks.now (handlers_at + 3 * (d.handlers - 1)) }
+    requires pending { d.handlers ≡ 0 → ⊥ }
+    requires newest { handler_of h ≡ handler_at stacks.now (handlers_at + 3 * (d.handlers - 1)) }
     ensures { Unwinds d stacks.now result }
 {
     let mut e = d;

@@ -115,7 +115,7 @@ pub(crate) fn write_line<'a>(
 )
     requires in_use { InUse code.now n text.now m }
     requires count_in_bounds { 3 * (from + count) ≤ length stacks.now }
-    requires count_in_bounds_2 { start + length (joined (stores_of code.now n text.now m) (values_at stacks.now from count)) ≤ length dest.old }
+    requires fits { start + length (joined (stores_of code.now n text.now m) (values_at stacks.now from count)) ≤ length dest.old }
     ensures { dest.new ≡ overwrite dest.old start (joined (stores_of code.now n text.now m) (values_at stacks.now from count)) }
 {
     let mut at = start;

@@ -23,4 +23,4 @@ pub returns-in-Failed : goal.returns-in-Failed
 returns-in-Failed c = start_failed c.args.image c.requires.0 c.requires.1 c.push_frame.ensures c.in-Failed.is c.error_number.ensures
 
 pub returns-in-Went : goal.returns-in-Went
-returns-in-Went c = start_ran c.args.image c.requires.0 c.requires.1 c.push_frame.ensures c.in-Went.is c.run_loop.result c.with_depths-begun.ensures c.run_loop.ensures.output_after c.run_loop.ensures.leaves
+returns-in-Went c = start_ran c.args.image c.requires.0 c.requires.1 c.push_frame.ensures c.in-Went.is c.run_loop.result c.with_depths-begun.ensures c.run_loop.ensures.ran c.run_loop.ensures.leaves

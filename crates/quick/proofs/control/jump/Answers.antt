@@ -6,5 +6,5 @@ use Rattle.fetch.specs.Running.{after_fetch}
 use Rattle.quick.specs.Quickly.{goes, carry, ip_ready}
 use Rattle.quick.proofs.control.jump.Goals as goal
 
-pub returns-clause-by_index : goal.returns-clause-by_index
-returns-clause-by_index c = λ w r q. carry (λ y m. after_fetch c.requires (λ p. make (A.jump p) next) (λ s h. h) q refl m) (goes (jumps c.with_ip.ensures refl) (ip_ready c.with_ip.ensures r))
+pub returns-clause-quickly : goal.returns-clause-quickly
+returns-clause-quickly c = λ w r q. carry (λ y m. after_fetch c.requires (λ p. make (A.jump p) next) (λ s h. h) q refl m) (goes (jumps c.with_ip.ensures refl) (ip_ready c.with_ip.ensures r))
