@@ -1,5 +1,5 @@
 -- DEMAND 3 OF THE ENGINE: one claim about lists of calls, from what clear gives, on stores that nobody else writes meanwhile.
--- How it is tied to the code: the `ensures` of each public function is a `called` of its call, that of clear a `clears`, and `does` has just these two.
+-- How it is tied to the code: the `ensures` of each public function is a `Called` of its call, that of clear a `Clears`, and `Does` has just these two.
 -- So a list of calls that were made is a `Made`, step by step by what the functions ensure. Assumes nothing.
 use Rattle.std.specs.Prelude.{Bool, true, List, [], ◌∷◌, ◌≡◌, refl, ℕ, zero, suc, ◌+◌, ◌*◌, length}
 use Rattle.std.proofs.Common.{sym, ap, subst, ◌∙◌}

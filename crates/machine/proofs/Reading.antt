@@ -120,7 +120,7 @@ from_digits minus n (b ∷ bs) =
     by true d behind more = behind ∙ digits_blank minus n b (cut_back bs) (d refl) (blank bs)
     by false d behind more = more
 
--- The first byte that is no blank is `_`, or it is read where a digit may stand.
+-- The first byte that is no blank is `-`, or it is read where a digit may stand.
 from_first : (b : ℕ) (bs : List ℕ) → N.is_blank b ≡ false
     → finish (resume (if eqb b 45 then digits true 0 else R.digit false 0 b) bs) ≡ N.signed_digits (cut_back (b ∷ bs))
 from_first b bs e =

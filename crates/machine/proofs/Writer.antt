@@ -24,7 +24,7 @@ use Rattle.machine.proofs.Format.{encode_injective}
 use Rattle.machine.proofs.Loads.{load_answer, load_answer_lem, load_leaves, load_image, same_templates}
 use Rattle.machine.proofs.Writes.{Holds, Opened, Given, Wrote, wrote_begin, wrote_template, wrote_constant, wrote_code, wrote_finish, open_newest, both, size_snoc, size_template}
 
--- Before a begin nothing is claimed of the buffer; from then on, `holds`.
+-- Before a begin nothing is claimed of the buffer; from then on, `Holds`.
 pub data Kept (d : Session) (ts : List Template) : Type 0 where
   not_yet : d.writer.stage ≡ unbegun → ts ≡ [] → Kept d ts
   holds : Holds d ts → Kept d ts
@@ -54,7 +54,7 @@ allowed true true e = (refl, refl)
 allowed true false e = absurd (some-ne-none 31 e)
 allowed false t e = absurd (some-ne-none 34 e)
 
--- THE LAW OF A CALL: where it is not refused, the buffer is the bytes of the templates then, with the rest as it was; and `holds` stands again.
+-- THE LAW OF A CALL: where it is not refused, the buffer is the bytes of the templates then, with the rest as it was; and `Holds` stands again.
 pub call_writes : (c : Call) (d : Session) (ts : List Template) → Given c → Kept d ts → W.asked c d ≡ none → Wrote c d ts
 call_writes c d ts g k e =
     let q = allowed (W.in_order c d.writer.stage && W.counts_fit c d.writer) (W.room_for c d.writer (length d.buffer)) e in

@@ -114,7 +114,7 @@ abbrev pub digits : ℕ → Bool → List ℕ → ℕ
 digits n minus [] = if minus then neg (whole n) else whole n
 digits n minus (b ∷ bs) = if is_digit b then digits (wrap (n * 10 + (b - 48))) minus bs else nan
 
--- Empty is 0; one optional `_`.
+-- Empty is 0; one optional `-`.
 abbrev pub signed_digits : List ℕ → ℕ
 signed_digits [] = 0
 signed_digits (b ∷ bs) = if eqb b 45 then digits 0 true bs else digits 0 false (b ∷ bs)

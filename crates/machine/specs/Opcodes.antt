@@ -1,5 +1,5 @@
 -- The table of opcodes: change 6 of document 02. For each byte it has the operand bytes that follow, the least operands taken, and the operands pushed. A row is
--- found by trying the instruction's rule (`row_of`), with no case for an opcode; `listed` is what it says of every step. Assumes nothing.
+-- found by trying the instruction's rule (`row_of`), with no case for an opcode; `Listed` is what it says of every step. Assumes nothing.
 use Rattle.std.specs.Prelude.{◌≡◌, ◌↔◌, Bool, false, not, ◌||◌, List, [], ◌∷◌, ℕ, zero, suc, ◌+◌, ◌-◌, ◌<◌, eqb, length, replicate}
 use Rattle.std.specs.Prelude.{if◌then◌else◌}
 use Rattle.machine.specs.Value.{object}

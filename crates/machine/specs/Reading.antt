@@ -4,7 +4,7 @@ use Rattle.std.specs.Prelude.{Bool, true, false, List, [], ◌∷◌, ◌++◌, 
 use Rattle.std.specs.Prelude.{if◌then◌else◌}
 use Rattle.machine.specs.Number as N
 
--- Blanks only; whether a `_` came, and the digits' worth; the same, with a blank behind them; no number, whatever follows.
+-- Blanks only; whether a `-` came, and the digits' worth; the same, with a blank behind them; no number, whatever follows.
 pub data Reading : Type 0 where
   leading : Reading
   digits : Bool → ℕ → Reading
@@ -40,7 +40,7 @@ finish (digits minus n) = signed_whole minus n
 finish (trailing minus n) = signed_whole minus n
 finish invalid = N.nan
 
--- A reading as three numbers: its stage, 1 for a `_`, the digits' worth.
+-- A reading as three numbers: its stage, 1 for a `-`, the digits' worth.
 pub record Saved : Type 0 where
   pub stage : ℕ
   pub minus : ℕ

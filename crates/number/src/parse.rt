@@ -1,4 +1,4 @@
-//! Text to number in one pass: blanks, an optional `_`, decimal digits, blanks. A text that comes in parts is read part by part, and no byte of it is kept.
+//! Text to number in one pass: blanks, an optional `-`, decimal digits, blanks. A text that comes in parts is read part by part, and no byte of it is kept.
 ghost use Rattle.std.specs.Prelude.{◌≡◌, ◌+◌, ◌*◌, ◌≤◌, length, drop};
 ghost use Rattle.machine.specs.Number as N;
 ghost use Rattle.machine.specs.Reading as R;
@@ -63,7 +63,7 @@ pub(crate) fn after_blanks(s: &[u8], i: usize) -> usize
 pub enum Reading {
     /// Blanks only.
     Leading,
-    /// Whether a `_` came, and the worth of the digits behind it.
+    /// Whether a `-` came, and the worth of the digits behind it.
     Digits(bool, u64),
     /// The same, with a blank behind them.
     Trailing(bool, u64),
@@ -71,7 +71,7 @@ pub enum Reading {
     Invalid,
 }
 
-/// A reading as three numbers, for a host that keeps it in its own form: 0 to 3 for the variant, 1 for a `_`, the worth of the digits.
+/// A reading as three numbers, for a host that keeps it in its own form: 0 to 3 for the variant, 1 for a `-`, the worth of the digits.
 #[derive(Clone, Copy)]
 pub struct Saved {
     pub stage: u64,

@@ -15,7 +15,7 @@ use number::format::{LONGEST_TEXT, Layout};
 use number::{JsNumber, format};
 use value::Value;
 
-/// The words that a value or its type is spelled by; an object that is a value is `[object object]`.
+/// The words that a value or its type is spelled by; an object that is a value is `[object Object]`.
 #[derive(Clone, Copy)]
 pub enum Word {
     Undefined,
