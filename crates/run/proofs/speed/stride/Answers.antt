@@ -7,7 +7,7 @@ pub loop-k-preserved-in-Went : goal.loop-k-preserved-in-Went
 loop-k-preserved-in-Went c = (stride_quick c.loop-k.invariant.0 c.step.ensures.quick_step c.step.ensures.stays c.in-Went.is c.stay-e.ensures c.loop-k-test.true, omega (arith, c.loop-k-test.true), c.step.auto.stacks ∙ c.loop-k.invariant.2, c.loop-k.invariant.3)
 
 pub returns-in_default : goal.returns-in_default
-returns-in_default c = rw c.strode_to.ensures (stride_stops (stride_left c.loop-k.invariant.0 c.step.ensures.quick_step c.step.ensures.stays c.in-Left.is) c.step-in-Left.result c.with_depths-b.ensures c.step-in-Left.ensures.by_index c.step-in-Left.ensures.stays c.in_default.is)
+returns-in_default c = rw c.strode_to.ensures (stride_stops (stride_left c.loop-k.invariant.0 c.step.ensures.quick_step c.step.ensures.stays c.in-Left.is) c.step-in-Left.result c.with_depths-b.ensures c.step-in-Left.ensures.reaches c.step-in-Left.ensures.stays c.in_default.is)
 
 pub loop-k-preserved : goal.loop-k-preserved
-loop-k-preserved c = (stride_reach (stride_left c.loop-k.invariant.0 c.step.ensures.quick_step c.step.ensures.stays c.in-Left.is) c.step-in-Left.result c.with_depths-b.ensures c.step-in-Left.ensures.by_index c.step-in-Left.ensures.stays c.in-Went-step.is c.stay-e-in-Left.ensures c.step-in-Left.auto.heap c.loop-k-test.true, omega (arith, c.loop-k-test.true), c.step-in-Left.auto.stacks ∙ c.step.auto.stacks ∙ c.loop-k.invariant.2, c.step-in-Left.auto.heap ∙ c.loop-k.invariant.3)
+loop-k-preserved c = (stride_reach (stride_left c.loop-k.invariant.0 c.step.ensures.quick_step c.step.ensures.stays c.in-Left.is) c.step-in-Left.result c.with_depths-b.ensures c.step-in-Left.ensures.reaches c.step-in-Left.ensures.stays c.in-Went-step.is c.stay-e-in-Left.ensures c.step-in-Left.auto.heap c.loop-k-test.true, omega (arith, c.loop-k-test.true), c.step-in-Left.auto.stacks ∙ c.step.auto.stacks ∙ c.loop-k.invariant.2, c.step-in-Left.auto.heap ∙ c.loop-k.invariant.3)
