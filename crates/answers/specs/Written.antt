@@ -1,13 +1,13 @@
 -- What C is told of the image writer's answers, and what the answer reads as there. Assumes nothing.
 use Rattle.std.specs.Prelude.{◌≡◌, refl, Bool, true, false, ◌⊎◌, List, ℕ, zero, suc}
-use Rattle.std.proofs.Common.{sym, ap, ◌∙◌, subst, inl, inr, arith}
-use Rattle.std.proofs.Math.Option.{Option, none, some, some-injective}
+use Rattle.std.proofs.Common.{sym, subst, inl, inr, arith}
+use Rattle.std.proofs.Math.Option.{some, some-injective}
 use Rattle.machine.specs.Writer as W
 use Rattle.machine.proofs.Writer.{refused_by}
 use Rattle.writer.specs.declared.Writer.{Writer}
 use Rattle.writer.specs.declared.Written.{Written}
 use Rattle.writer.specs.declared.Written.TheVariants.{Wrote, Refused}
-use Rattle.writer.specs.View.{session_of, writer_of, refusal, answer, Does}
+use Rattle.writer.specs.View.{session_of, writer_of, Does}
 use Rattle.answers.specs.declared.WriteTold.{WriteTold}
 
 abbrev pub write_told : ℕ → Writer → WriteTold

@@ -206,7 +206,7 @@ fn append(
     counts: ImageCounts,
     image: &[u8],
 ) -> Loaded
-    requires { Fitting (record { code = code.now; places = places.old; rows = rows.old; starts = starts.old }) counts image.now }
+    requires { Fitting (record { code = code.old; places = places.old; rows = rows.old; starts = starts.old }) counts image.now }
     ensures { AppendSays
         (record { code = code.old; places = places.old; rows = rows.old; starts = starts.old })
         (record { code = code.new; places = places.new; rows = rows.new; starts = starts.new })

@@ -1,11 +1,7 @@
-use borrow.Author.Rules.{rules}
 use Rattle.heapops.specs.Turns.{mem}
 use Rattle.finish.specs.Parts.{tables}
 use mathlib.Core.Path.{sym, ◌∙◌}
-use Rattle.host.specs.Lent.{lengths}
-use Rattle.engine.specs.Clears.{clear_refused, clear_done}
-use Rattle.std.proofs.Common.{◌≡◌, ℕ, ◌+◌, ◌-◌, ◌*◌, ◌<◌, ◌≤◌, length, ◌/◌, ◌%◌, Bool, true, false, nat_eq, nat_lt, List, [], ◌∷◌, ◌++◌, slice_index_or, slice_set, bit_and, bit_or, Fits, w8, w32, w64, Bor, MutBor}
-use Rattle.host.specs.Calls.{Clears}
+use Rattle.engine.specs.Clears.{clear_done}
 use Rattle.engine.proofs.clear.Goals as goal
 
 pub returns-then-listed : goal.returns-then-listed

@@ -1,18 +1,11 @@
-use borrow.Author.Rules.{rules}
 use Rattle.heapops.specs.Turns.{mem}
 use Rattle.finish.specs.Parts.{tables}
-use Rattle.host.specs.Lent.{lent_if, not_lent, lent_sized, lent_use}
-use Rattle.globals.specs.Globals.{set_29, set_30, set_put}
+use Rattle.host.specs.Lent.{lent_if, lent_sized}
+use Rattle.globals.specs.Globals.{set_put}
 use mathlib.Core.Path.{sym, ap, ◌∙◌}
 use Rattle.machine.specs.Act.{plain}
 use Rattle.value.specs.Words.{value_of}
 use mathlib.Core.Bool.{Bool, true, ◌&&◌}
-use Rattle.host.specs.Lent.{lent_lengths, lent_within}
-use Rattle.std.proofs.Common.{◌≡◌, ℕ, ◌+◌, ◌-◌, ◌*◌, ◌<◌, ◌≤◌, length, ◌/◌, ◌%◌, false, nat_eq, nat_lt, List, [], ◌∷◌, ◌++◌, slice_index_or, slice_set, bit_and, bit_or, Fits, w8, w32, w64, Bor, MutBor}
-use Rattle.machine.specs.Act.{as_bytes}
-use Rattle.machine.specs.Host as Host
-use Rattle.host.specs.Calls.{Called, answer_of_changed, counts_of_changed, answer_of_read}
-use Rattle.globals.specs.Globals.{settled}
 use Rattle.globals.proofs.set_global.Goals as goal
 
 pub put_global-r-requires-clause-sized : goal.put_global-r-requires-clause-sized

@@ -1,13 +1,8 @@
-use borrow.Author.Rules.{rules}
 use Rattle.heapops.specs.Turns.{mem}
 use Rattle.finish.specs.Parts.{tables}
-use Rattle.host.specs.Lent.{lent_if, not_lent, lent_sized}
+use Rattle.host.specs.Lent.{lent_if, lent_sized}
 use Rattle.engine.specs.Registers.{register_10, register_zero, register_32, register_added}
 use native.Mathlib.Omega.{arith}
-use Rattle.std.proofs.Common.{◌≡◌, ℕ, ◌+◌, ◌-◌, ◌*◌, ◌<◌, ◌≤◌, length, ◌/◌, ◌%◌, Bool, true, false, nat_eq, nat_lt, List, [], ◌∷◌, ◌++◌, slice_index_or, slice_set, bit_and, bit_or, Fits, w8, w32, w64, Bor, MutBor}
-use Rattle.machine.specs.Host as Host
-use Rattle.host.specs.Calls.{Called, answer_of_numbered, counts_of_numbered}
-use Rattle.engine.specs.Registers.{added}
 use Rattle.engine.proofs.images.register.Goals as goal
 
 pub returns-then-c-image : goal.returns-then-c-image

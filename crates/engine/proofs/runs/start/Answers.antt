@@ -1,13 +1,6 @@
-use borrow.Author.Rules.{rules}
 use Rattle.run.specs.Runs.{whole_ready}
 use Rattle.host.specs.Lent.{whole_lent}
 use Rattle.engine.specs.Runs.{start_full, start_failed, start_whole, start_ran}
-use Rattle.std.proofs.Common.{◌<◌, ◌≡◌, ℕ, ◌+◌, ◌-◌, ◌*◌, ◌≤◌, length, ◌/◌, ◌%◌, Bool, true, false, nat_eq, nat_lt, List, [], ◌∷◌, ◌++◌, slice_index_or, slice_set, bit_and, bit_or, Fits, w8, w32, w64, Bor, MutBor}
-use Rattle.machine.specs.Host as Host
-use Rattle.heapops.specs.Turns.{mem}
-use Rattle.finish.specs.Parts.{tables}
-use Rattle.host.specs.Calls.{Called, answer_of_run, counts_of_run}
-use Rattle.host.specs.Lent.{Lent}
 use Rattle.engine.proofs.runs.start.Goals as goal
 
 pub push_frame-requires : goal.push_frame-requires

@@ -1,5 +1,4 @@
-use Rattle.std.proofs.Common.{◌≡◌, ◌-◌, length, rules}
-use Rattle.std.proofs.Common.{ℕ, ◌+◌, ◌*◌, ◌<◌, ◌≤◌}
+use Rattle.std.proofs.Common.{◌-◌, length}
 use Rattle.writer_rows.proofs.examples.others.Given as goal
 
 abbrev pub invariant-loop-i : goal.invariant-loop-i
