@@ -1,7 +1,7 @@
 //! Why an image is not kept.
-ghost use Rattle.std.specs.Prelude.{◌≡◌};
+ghost use Rattle.std.specs.Prelude.{◌≡◌, Some};
 ghost use Rattle.image.specs.declared.error.LoadError.TheVariants.{Image};
-ghost use Rattle.image.specs.Errors.{asked};
+ghost use Rattle.image.specs.Errors.{asked, text_of};
 
 use reader::ImageError;
 use std::error::Error;
@@ -39,12 +39,14 @@ impl From<LoadError> for u64 {
 }
 
 impl fmt::Display for LoadError {
+    ghost output = { λ e. Some (text_of e) };
+
     fn fmt<W: fmt::Write>(&self, f: &mut fmt::Formatter<W>) -> fmt::Result {
         match self {
             LoadError::Image(e) => write!(f, "{e}"),
-            LoadError::CodeFull => write!(f, "the code store is full"),
-            LoadError::ImagesFull => write!(f, "the table of images is full"),
-            LoadError::StoreSizes => write!(f, "a store has another size than the listed one"),
+            LoadError::CodeFull => f.write_str("the code store is full"),
+            LoadError::ImagesFull => f.write_str("the table of images is full"),
+            LoadError::StoreSizes => f.write_str("a store is not of its listed size"),
         }
     }
 }

@@ -1,6 +1,6 @@
 //! Which question about an image was answered no.
-ghost use Rattle.std.specs.Prelude.{◌≡◌};
-ghost use Rattle.reader.specs.Errors.{question};
+ghost use Rattle.std.specs.Prelude.{◌≡◌, Some};
+ghost use Rattle.reader.specs.Errors.{question, text_of};
 
 use std::error::Error;
 use std::fmt;
@@ -26,16 +26,18 @@ impl From<ImageError> for u64 {
 }
 
 impl fmt::Display for ImageError {
+    ghost output = { λ e. Some (text_of e) };
+
     fn fmt<W: fmt::Write>(&self, f: &mut fmt::Formatter<W>) -> fmt::Result {
-        match self {
-            ImageError::UnexpectedEnd => write!(f, "the image ends too soon"),
-            ImageError::TemplateCount => write!(f, "an image has 1 to 256 templates"),
-            ImageError::ConstantKind => write!(f, "no kind of constant"),
-            ImageError::BooleanValue => write!(f, "a boolean is neither 0 nor 1"),
-            ImageError::TextByte => write!(f, "a text has a byte above 127"),
-            ImageError::FunctionIndex => write!(f, "a function is no later template"),
-            ImageError::TrailingBytes => write!(f, "bytes are left over"),
-        }
+        f.write_str(match self {
+            ImageError::UnexpectedEnd => "the image ends too soon",
+            ImageError::TemplateCount => "an image has 1 to 256 templates",
+            ImageError::ConstantKind => "a constant is of an unknown kind",
+            ImageError::BooleanValue => "a boolean is neither 0 nor 1",
+            ImageError::TextByte => "a text has a byte above 127",
+            ImageError::FunctionIndex => "a function is not a later template",
+            ImageError::TrailingBytes => "bytes are left over",
+        })
     }
 }
 

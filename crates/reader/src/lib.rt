@@ -62,6 +62,7 @@ impl<'a> Reader<'a> {
         self.at
     }
 
+    #[inline]
     fn byte(&mut self) -> Result<u8, ImageError>
         ensures src { self.new.src ≡ self.old.src }
         ensures says { Says self.old.src.now self.old.at self.new.at 1 I.byte result }
@@ -71,6 +72,7 @@ impl<'a> Reader<'a> {
         Ok(b)
     }
 
+    #[inline]
     pub fn word(&mut self) -> Result<u16, ImageError>
         ensures src { self.new.src ≡ self.old.src }
         ensures says { Says self.old.src.now self.old.at self.new.at 2 I.word result }
@@ -81,6 +83,7 @@ impl<'a> Reader<'a> {
     }
 
     // A number of 8 bytes.
+    #[inline]
     fn long(&mut self) -> Result<u64, ImageError>
         ensures src { self.new.src ≡ self.old.src }
         ensures says { Says self.old.src.now self.old.at self.new.at 8 (I.wide 8 0) result }
@@ -93,6 +96,7 @@ impl<'a> Reader<'a> {
     }
 
     // The next n bytes.
+    #[inline]
     fn bytes(&mut self, n: usize) -> Result<&'a [u8], ImageError>
         ensures src { self.new.src ≡ self.old.src }
         ensures spans { Spans self.old.src.now self.old.at self.new.at n result }
@@ -105,6 +109,7 @@ impl<'a> Reader<'a> {
         Ok(&self.src[from..self.at])
     }
 
+    #[inline]
     fn text(&mut self) -> Result<Constant, ImageError>
         ensures src { self.new.src ≡ self.old.src }
         ensures tells { Tells self.old.src.now self.old.at self.new.at I.text_constant result }
@@ -118,6 +123,7 @@ impl<'a> Reader<'a> {
         }
     }
 
+    #[inline]
     fn boolean(&mut self) -> Result<Constant, ImageError>
         ensures src { self.new.src ≡ self.old.src }
         ensures tells { Tells self.old.src.now self.old.at self.new.at I.boolean_constant result }
@@ -129,6 +135,7 @@ impl<'a> Reader<'a> {
         }
     }
 
+    #[inline]
     fn function(&mut self, own: u64, count: u64) -> Result<Constant, ImageError>
         ensures src { self.new.src ≡ self.old.src }
         ensures tells { Tells self.old.src.now self.old.at self.new.at (I.function_constant own count) result }
@@ -142,6 +149,8 @@ impl<'a> Reader<'a> {
     }
 
     // A constant of template `own` of `count`.
+    // Compiled into the loops of both passes, with what it calls: else each constant goes through memory, and a load takes three times the instructions.
+    #[inline(always)]
     pub fn constant(&mut self, own: u64, count: u64) -> Result<Constant, ImageError>
         ensures src { self.new.src ≡ self.old.src }
         ensures tells { TellsMore self.old.src.now self.old.at self.new.at (I.constant own count) result }
