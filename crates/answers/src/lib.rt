@@ -12,8 +12,8 @@ ghost use Rattle.answers.specs.Written.{write_told, told_write};
 
 use heapops::Counts;
 use host::{Changed, Drained, GlobalRead, Numbered, RunAnswer, Wrote};
-use run::{Ending, Ran};
-use value::{JsVmError, Value, Words};
+use run::Ran;
+use value::{JsVmError, Stop, Value, Words};
 use writer::{Writer, Written};
 
 // A call's number, 0 where it was accepted; an image's number or the bytes written; and what is in use then.
@@ -164,13 +164,13 @@ fn started(x: Ran) -> RunTold
 }
 
 // The byte of error 13.
-fn opcode_in(e: Ending) -> u64
+fn opcode_in(e: Result<Value, Stop>) -> u64
     ensures { result ≡ opcode_of (result_of e) }
 {
     match e {
-        Ending::Finished(_) => 0,
-        Ending::Failed(q) => opcode_of(q),
-        Ending::Full(_) => 0,
+        Ok(_) => 0,
+        Err(Stop::Failed(q)) => opcode_of(q),
+        Err(Stop::Refused(_)) => 0,
     }
 }
 

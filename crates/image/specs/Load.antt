@@ -1,6 +1,6 @@
 -- What load and the lookups promise. Assumes nothing.
-use Rattle.std.specs.Prelude.{◌≡◌, Bool, true, false, ◌&&◌, List, [], ◌∷◌, ◌++◌, ℕ, ◌+◌, ◌≤◌, ◌<◌, eqb, leb, length, take, get_or}
-use Rattle.std.proofs.Math.Option.{Option, none, some}
+use Rattle.std.specs.Prelude.{◌≡◌, Bool, true, false, ◌&&◌, List, [], ◌∷◌, ◌++◌, ℕ, ◌+◌, ◌≤◌, ◌<◌, eqb, leb, length, take, get_or, Option, Some, None}
+use Rattle.std.proofs.Math.Option.{Option as Maybe, none, some}
 use Rattle.machine.specs.Image as I
 use Rattle.machine.specs.Image.{Template}
 use Rattle.machine.specs.State.{State, limit, code_store, image_store}
@@ -16,9 +16,8 @@ use Rattle.image.specs.declared.Loaded.{Loaded}
 use Rattle.image.specs.declared.Loaded.TheVariants.{Done, Refused}
 use Rattle.image.specs.declared.Space.{Space}
 use Rattle.image.specs.declared.Space.TheVariants.{Free, Full}
-use Rattle.image.specs.declared.FoundConstant.{FoundConstant}
-use Rattle.image.specs.declared.FoundConstant.TheVariants.{Is, Missing}
 use Rattle.image.specs.declared.FunctionTemplate.{FunctionTemplate}
+use Rattle.reader.specs.declared.Constant.{Constant}
 
 -- The lent stores: the code, the places of constants, the rows of templates, the images' first bytes.
 pub record Stores : Type 0 where
@@ -36,23 +35,23 @@ abbrev pub listed : Stores → Bool
 listed x = sizes_listed (length x.code) (length x.places) (length x.rows) (length x.starts)
 
 -- The questions in order: 33, then 1 to 7 of the image alone, then 8, then 9.
-abbrev pub or_else : Option ℕ → Option ℕ → Option ℕ
+abbrev pub or_else : Maybe ℕ → Maybe ℕ → Maybe ℕ
 or_else (some q) x = some q
 or_else none x = x
 
-abbrev pub unless : Bool → ℕ → Option ℕ
+abbrev pub unless : Bool → ℕ → Maybe ℕ
 unless true q = none
 unless false q = some q
 
 -- Questions 8 and 9.
-abbrev pub space_refusal : ImageCounts → ℕ → Option ℕ
+abbrev pub space_refusal : ImageCounts → ℕ → Maybe ℕ
 space_refusal c n = or_else (unless (leb (c.code + n) (limit code_store)) 8) (unless (leb (c.images + 1) (limit image_store)) 9)
 
-abbrev pub space_of : Space → Option ℕ
+abbrev pub space_of : Space → Maybe ℕ
 space_of Free = none
 space_of (Full q) = some q
 
-abbrev pub load_refusal : Bool → ImageCounts → List ℕ → Option ℕ
+abbrev pub load_refusal : Bool → ImageCounts → List ℕ → Maybe ℕ
 load_refusal sized c bs =
     or_else (unless sized 33)
     (or_else (refusal_read (I.image c.code bs)) (space_refusal c (length bs)))
@@ -81,7 +80,7 @@ abbrev pub answer_of : Loaded → Answer
 answer_of (Done i d) = numbered i
 answer_of (Refused q) = refusal q
 
-abbrev pub refusal_of : Loaded → Option ℕ
+abbrev pub refusal_of : Loaded → Maybe ℕ
 refusal_of (Done i d) = none
 refusal_of (Refused q) = some q
 
@@ -130,6 +129,6 @@ template_from code places t = record {
   size = t.size;
 }
 
-abbrev pub found_of : FoundConstant → Option I.Constant
-found_of (Is k) = some (constant_of k)
-found_of Missing = none
+abbrev pub found_of : Option Constant → Maybe I.Constant
+found_of (Some k) = some (constant_of k)
+found_of None = none

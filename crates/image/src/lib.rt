@@ -45,12 +45,6 @@ pub struct FunctionTemplate {
     pub size: usize,
 }
 
-#[derive(Clone, Copy)]
-pub enum FoundConstant {
-    Is(Constant),
-    Missing,
-}
-
 // n constants: the place of each goes into the table.
 fn fill_constants(s: &[u8], places: &mut [u16], c: Cursor, n: usize, own: u64, count: u64) -> Step
     requires { (c.at ≤ length s.now) × (length s.now ≤ limit code_store) × (length s.now ≤ length places.old) }
@@ -410,18 +404,18 @@ fn held(code: &[u8], p: usize) -> Constant
 }
 
 // Constant k of a template.
-pub fn constant_at(code: &[u8], places: &[u16], t: FunctionTemplate, k: usize) -> FoundConstant
+pub fn constant_at(code: &[u8], places: &[u16], t: FunctionTemplate, k: usize) -> Option<Constant>
     ensures { found_of result ≡ get_elem? (constants_of code.now places.now t.constants t.constant_count) k }
 {
     if t.constant_count <= k {
-        return FoundConstant::Missing;
+        return None;
     }
     let first = t.constants;
-    FoundConstant::Is(held(code, entry_after(places, first, k)))
+    Some(held(code, entry_after(places, first, k)))
 }
 
 // The constant whose kind stands at place p, where nine bytes are there and it is no function.
-fn near_at(code: &[u8], p: usize) -> FoundConstant
+fn near_at(code: &[u8], p: usize) -> Option<Constant>
     requires { (p < 65536) × (p + 9 ≤ length code.now) }
     ensures { Nears (some (constant_at code.now p)) result }
 {
@@ -429,32 +423,32 @@ fn near_at(code: &[u8], p: usize) -> FoundConstant
     match wide(code[p]) {
         0 => {
             let a = quad_at(code, q, 0);
-            FoundConstant::Is(Constant::Number(quad_at(code, q + 4, a)))
+            Some(Constant::Number(quad_at(code, q + 4, a)))
         }
         1 => {
             let i = q + 1;
             let from = p + 3;
             let size = wide(code[q]) * 256 + wide(code[i]);
-            FoundConstant::Is(Constant::Str(from as u64, size))
+            Some(Constant::Str(from as u64, size))
         }
-        2 => FoundConstant::Is(Constant::Bool(wide(code[q]) == 1)),
-        3 => FoundConstant::Is(Constant::Null),
-        4 => FoundConstant::Is(Constant::Undefined),
-        _ => FoundConstant::Missing,
+        2 => Some(Constant::Bool(wide(code[q]) == 1)),
+        3 => Some(Constant::Null),
+        4 => Some(Constant::Undefined),
+        _ => None,
     }
 }
 
 // Constant k of a template, the quick way: where its bytes are sure to be there and it is no function. `Missing` says nothing of the constant.
-pub fn near(code: &[u8], places: &[u16], t: FunctionTemplate, k: usize) -> FoundConstant
+pub fn near(code: &[u8], places: &[u16], t: FunctionTemplate, k: usize) -> Option<Constant>
     ensures { Nears (get_elem? (constants_of code.now places.now t.constants t.constant_count) k) result }
 {
     if t.constant_count <= k {
-        return FoundConstant::Missing;
+        return None;
     }
     let first = t.constants;
     let p = entry_after(places, first, k);
     if code.len() < p + 9 {
-        return FoundConstant::Missing;
+        return None;
     }
     near_at(code, p)
 }
@@ -482,7 +476,7 @@ pub fn load_const(
     i: usize,
     t: usize,
     k: usize,
-) -> FoundConstant
+) -> Option<Constant>
     ensures { found_of result ≡ get_elem? (get_or (get_or (images_of code.now places.now rows.now starts.now n) i []) t no_template).constants k }
 {
     constant_at(code, places, template_at(rows, starts, n, i, t), k)
