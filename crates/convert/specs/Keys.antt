@@ -1,5 +1,5 @@
 -- The numeric key of an array. Assumes nothing.
-use Rattle.std.specs.Prelude.{ℕ, ◌+◌, ◌-◌, ◌*◌, ◌/◌, ◌^◌, ◌≤◌, ◌<◌, Bool, true, false, ◌&&◌, List, [], ◌∷◌, ◌≡◌, refl, leb, length, get_or, drop, Option, Some, None}
+use Rattle.std.specs.Prelude.{ℕ, ◌+◌, ◌-◌, ◌*◌, ◌^◌, ◌≤◌, ◌<◌, Bool, true, false, ◌&&◌, List, [], ◌∷◌, ◌≡◌, refl, leb, length, get_or, drop, Option, Some, None}
 use Rattle.std.proofs.Common.{arith, add-one, sym, ap, ◌∙◌, drop_of_length-le, drop-cons, ne_eqb, eq-eqb, lt-ltb, le-ltb, leb-true}
 use Rattle.std.proofs.Math.Option.{Option as Maybe, none, some}
 use Rattle.std.specs.Prelude.{if◌then◌else◌}
@@ -62,14 +62,11 @@ module _ (s : List ℕ) where
             ap (λ (k : ℕ). worth (n * 10 + k) (drop (i + 1) s)) q
             ∙ sym (sym r.same ∙ at_byte ∙ ap (λ (t : Bool). if t then worth (n * 10 + (get_or s i 0 - 48)) (drop (i + 1) s) else none) e)
 
-        pub reading_fits : n ≤ (2 ^ 64 - 1 - d) / 10 → n * 10 + d < 2 ^ 64
-        reading_fits g = let l = digit_small (get_or s i 0) d e q in omega arith
+        pub reading_large : 2 ^ 64 ≤ n * 10 + d → none ≡ digits_key s
+        reading_large g = sym (sym next_byte ∙ worth_large (n * 10 + d) (drop (i + 1) s) g)
 
-        pub reading_large : (2 ^ 64 - 1 - d) / 10 < n → none ≡ digits_key s
-        reading_large g = sym (sym next_byte ∙ worth_large (n * 10 + d) (drop (i + 1) s) (omega arith))
-
-        pub reading_more : n ≤ (2 ^ 64 - 1 - d) / 10 → Reading s (n * 10 + d) (i + 1)
-        reading_more g = record { same = next_byte; fits = reading_fits g; within = omega arith }
+        pub reading_more : n * 10 + d < 2 ^ 64 → Reading s (n * 10 + d) (i + 1)
+        reading_more g = record { same = next_byte; fits = g; within = omega arith }
 
 -- the sign
 pub array_none : (s : List ℕ) → length s ≡ 0 → none ≡ array_key s

@@ -2,35 +2,31 @@
 #![tactic(auto)]
 
 use heap::HEAP_WORDS;
-
-const STDOUT: i32 = 1;
-
 use stacks::STACK_WORDS;
+use std::{fmt, io};
 use texts::TEXT_LIMIT;
 
 mod object_rows;
 mod stack_rows;
 
-fn report(name: &[u8], rows: u64, differ: u64) {
-    io::write_all(STDOUT, name);
-    io::print_decimal(STDOUT, rows);
-    io::write_all(STDOUT, b" compared, ");
-    io::print_decimal(STDOUT, differ);
-    io::write_all(STDOUT, b" differ\n");
+/// Some rows: does each agree with the sheet?
+#[derive(Clone, Copy)]
+struct Rows<'a>(&'a [bool]);
+
+impl fmt::Display for Rows<'_> {
+    fn fmt<W: fmt::Write>(&self, f: &mut fmt::Formatter<W>) -> fmt::Result {
+        let rows = self.0.len();
+        let differ = self.0.iter().filter(|agrees| !**agrees).count();
+        write!(f, "{rows} compared, {differ} differ")
+    }
 }
 
-fn main() {
+fn main(rt: HostRuntime) -> io::Result<()> {
     let mut stacks = [0u64; STACK_WORDS];
     let mut heap = [0u64; HEAP_WORDS];
     let mut text = [0u8; TEXT_LIMIT];
-    report(
-        b"stacks: ",
-        stack_rows::ROWS,
-        stack_rows::differing(&mut stacks),
-    );
-    report(
-        b"arrays: ",
-        object_rows::ROWS,
-        object_rows::differing(&mut heap, &mut text, &mut stacks),
-    );
+    let rows = stack_rows::rows(&mut stacks);
+    println!(rt; "stacks: {}", Rows(&rows))?;
+    let rows = object_rows::rows(&mut heap, &mut text, &mut stacks);
+    println!(rt; "arrays: {}", Rows(&rows))
 }

@@ -6,8 +6,6 @@ ghost use Rattle.stacks.specs.View.{Ready, MadeReady};
 use stacks::Depths;
 use value::{JsVmError, Space, Stop, Value};
 
-pub const ROWS: u64 = 8;
-
 // Fewer depths than any limit: nothing stands.
 fn none() -> Depths
     ensures { (w : List ℕ) → length w ≡ stack_words → Ready result w }
@@ -22,56 +20,12 @@ fn none() -> Depths
 }
 
 // The depths after an act; an error or a refusal leaves them.
-fn after(d: Depths, m: Result<Depths, Stop>) -> Depths
-    ensures { (w w' : List ℕ) → Ready d w → MadeReady m w w' → Ready result w' }
+fn after(d: Depths, made: Result<Depths, Stop>) -> Depths
+    ensures { (w w' : List ℕ) → Ready d w → MadeReady made w w' → Ready result w' }
 {
-    match m {
+    match made {
         Ok(e) => e,
-        Err(Stop::Failed(_e)) => d,
-        Err(Stop::Refused(_q)) => d,
-    }
-}
-
-fn went(m: Result<Depths, Stop>) -> bool {
-    match m {
-        Ok(_) => true,
-        Err(Stop::Failed(_)) => false,
-        Err(Stop::Refused(_)) => false,
-    }
-}
-
-// Question 16.
-fn overflows(m: Result<Depths, Stop>) -> bool {
-    match m {
-        Err(Stop::Failed(e)) => match e {
-            JsVmError::StackOverflow => true,
-            _ => false,
-        },
-        Ok(_) => false,
-        Err(Stop::Refused(_)) => false,
-    }
-}
-
-// The number of a store, as document 01 counts its questions.
-fn question(q: Space) -> u64 {
-    match q {
-        Space::Frames => 11,
-        Space::Slots => 21,
-        Space::Handlers => 22,
-        Space::Functions => 23,
-        Space::Objects => 24,
-        Space::Properties => 25,
-        Space::Globals => 26,
-        Space::Text => 27,
-        Space::Output => 28,
-    }
-}
-
-fn refuses(m: Result<Depths, Stop>, n: u64) -> bool {
-    match m {
-        Err(Stop::Refused(q)) => question(q) == n,
-        Ok(_) => false,
-        Err(Stop::Failed(_)) => false,
+        Err(_) => d,
     }
 }
 
@@ -80,11 +34,8 @@ fn operands(stacks: &mut [u64], n: usize) -> Depths
     ensures { Ready result stacks.new }
 {
     let mut d = none();
-    let mut i: usize = 0;
-    while i < n {
-        let m = stacks::push(d, stacks, Value::Number(i as u64));
-        d = after(d, m);
-        i += 1;
+    for i in 0..n {
+        d = after(d, stacks::push(d, stacks, Value::Number(i as u64)));
     }
     d
 }
@@ -94,11 +45,8 @@ fn frames(stacks: &mut [u64], n: usize) -> Depths
     ensures { Ready result stacks.new }
 {
     let mut d = none();
-    let mut i: usize = 0;
-    while i < n {
-        let m = stacks::push_frame(d, stacks, 0, 0);
-        d = after(d, m);
-        i += 1;
+    for _ in 0..n {
+        d = after(d, stacks::push_frame(d, stacks, 0, 0));
     }
     d
 }
@@ -108,11 +56,8 @@ fn handlers(stacks: &mut [u64], n: usize) -> Depths
     ensures { Ready result stacks.new }
 {
     let mut d = frames(stacks, 1);
-    let mut i: usize = 0;
-    while i < n {
-        let m = stacks::push_handler(d, stacks, 0);
-        d = after(d, m);
-        i += 1;
+    for _ in 0..n {
+        d = after(d, stacks::push_handler(d, stacks, 0));
     }
     d
 }
@@ -121,7 +66,7 @@ fn handlers(stacks: &mut [u64], n: usize) -> Depths
 pub fn one(stacks: &mut [u64], n: u64)
     requires { length stacks.old ≡ stack_words }
 {
-    stacks::push(none(), stacks, Value::Number(n));
+    let _ = stacks::push(none(), stacks, Value::Number(n));
 }
 
 // A push onto n operands succeeds.
@@ -129,7 +74,7 @@ fn push_fits(stacks: &mut [u64], n: usize) -> bool
     requires { length stacks.old ≡ stack_words }
 {
     let d = operands(stacks, n);
-    went(stacks::push(d, stacks, Value::Null))
+    stacks::push(d, stacks, Value::Null).is_ok()
 }
 
 // A push onto n operands is 16.
@@ -137,7 +82,8 @@ pub fn push_overflows(stacks: &mut [u64], n: usize) -> bool
     requires { length stacks.old ≡ stack_words }
 {
     let d = operands(stacks, n);
-    overflows(stacks::push(d, stacks, Value::Null))
+    let made = stacks::push(d, stacks, Value::Null);
+    matches!(made, Err(Stop::Failed(JsVmError::StackOverflow)))
 }
 
 // Slot i stored by the only frame is accepted.
@@ -145,42 +91,39 @@ fn slot_fits(stacks: &mut [u64], i: usize) -> bool
     requires { (length stacks.old ≡ stack_words) × (i < 65536) }
 {
     let d = frames(stacks, 1);
-    went(stacks::store(d, stacks, i, Value::Null))
+    stacks::store(d, stacks, i, Value::Null).is_ok()
 }
 
 fn slot_refused(stacks: &mut [u64], i: usize) -> bool
     requires { (length stacks.old ≡ stack_words) × (i < 65536) }
 {
     let d = frames(stacks, 1);
-    refuses(stacks::store(d, stacks, i, Value::Null), 21)
+    let made = stacks::store(d, stacks, i, Value::Null);
+    matches!(made, Err(Stop::Refused(Space::Slots)))
 }
 
 fn frame_refused(stacks: &mut [u64], n: usize) -> bool
     requires { length stacks.old ≡ stack_words }
 {
     let d = frames(stacks, n);
-    refuses(stacks::push_frame(d, stacks, 0, 0), 11)
+    let made = stacks::push_frame(d, stacks, 0, 0);
+    matches!(made, Err(Stop::Refused(Space::Frames)))
 }
 
 fn handler_refused(stacks: &mut [u64], n: usize) -> bool
     requires { length stacks.old ≡ stack_words }
 {
     let d = handlers(stacks, n);
-    refuses(stacks::push_handler(d, stacks, 0), 22)
+    let made = stacks::push_handler(d, stacks, 0);
+    matches!(made, Err(Stop::Refused(Space::Handlers)))
 }
 
-fn is_number(v: Value, n: u64) -> bool {
-    match v {
-        Value::Number(k) => k == n,
-        _ => false,
-    }
+pub fn is_number(v: Value, n: u64) -> bool {
+    matches!(v, Value::Number(k) if k == n)
 }
 
 pub fn is_undefined(v: Value) -> bool {
-    match v {
-        Value::Undefined => true,
-        _ => false,
-    }
+    matches!(v, Value::Undefined)
 }
 
 // Operands 0 to 2, of which the first is called with the others: of three parameters the third is Undefined.
@@ -192,8 +135,8 @@ fn arguments_passed(stacks: &mut [u64]) -> bool
     if 1000 < d.operands {
         return false;
     }
-    let m = stacks::call_frame(d, stacks, 0, 1, 2, 3, 4);
-    let e = after(d, m);
+    let made = stacks::call_frame(d, stacks, 0, 1, 2, 3, 4);
+    let e = after(d, made);
     let first = is_number(stacks::read_slot(e, stacks, 0), 1);
     let second = is_number(stacks::read_slot(e, stacks, 1), 2);
     let third = is_undefined(stacks::read_slot(e, stacks, 2));
@@ -205,46 +148,21 @@ fn empty_pops(stacks: &mut [u64]) -> bool
     requires { length stacks.old ≡ stack_words }
 {
     let d = operands(stacks, 0);
-    let None = stacks::pop(d, stacks) else {
-        return false;
-    };
-    is_undefined(stacks::top(d, stacks))
+    stacks::pop(d, stacks).is_none() && is_undefined(stacks::top(d, stacks))
 }
 
-pub fn counted(agrees: bool) -> u64 {
-    if agrees { 0 } else { 1 }
-}
-
-pub fn sum(a: u64, b: u64) -> u64 {
-    std::num::wrapping_add_u64(a, b)
-}
-
-// Operands and slots.
-fn sheet_rows(stacks: &mut [u64]) -> u64
+/// Operands and slots; then frames, handlers, a call, nothing to pop.
+pub fn rows(stacks: &mut [u64]) -> [bool; 8]
     requires { length stacks.old ≡ stack_words }
 {
-    let a = counted(push_fits(stacks, 1023));
-    let b = counted(push_overflows(stacks, 1024));
-    let c = counted(slot_fits(stacks, 2047));
-    let d = counted(slot_refused(stacks, 2048));
-    sum(sum(a, b), sum(c, d))
-}
-
-// Frames, handlers, a call, nothing to pop.
-fn other_rows(stacks: &mut [u64]) -> u64
-    requires { length stacks.old ≡ stack_words }
-{
-    let a = counted(frame_refused(stacks, stacks::FRAME_LIMIT));
-    let b = counted(handler_refused(stacks, stacks::HANDLER_LIMIT));
-    let c = counted(arguments_passed(stacks));
-    let d = counted(empty_pops(stacks));
-    sum(sum(a, b), sum(c, d))
-}
-
-/// How many rows differ, of ROWS.
-pub fn differing(stacks: &mut [u64]) -> u64
-    requires { length stacks.old ≡ stack_words }
-{
-    let a = sheet_rows(stacks);
-    sum(a, other_rows(stacks))
+    [
+        push_fits(stacks, 1023),
+        push_overflows(stacks, 1024),
+        slot_fits(stacks, 2047),
+        slot_refused(stacks, 2048),
+        frame_refused(stacks, stacks::FRAME_LIMIT),
+        handler_refused(stacks, stacks::HANDLER_LIMIT),
+        arguments_passed(stacks),
+        empty_pops(stacks),
+    ]
 }
