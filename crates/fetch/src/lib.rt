@@ -7,7 +7,7 @@ ghost use Rattle.stacks.specs.View.{Ready};
 ghost use Rattle.fetch.specs.Running.{byte_in, Fetches, FetchesWord, Known, Current, cut_of};
 
 use image::FunctionTemplate;
-use outcome::{Stepped, failed, with_ip};
+use outcome::{Stepped, failed};
 use stacks::Depths;
 use value::JsVmError;
 
@@ -76,7 +76,7 @@ pub fn fetch(x: Running, d: Depths, code: &[u8], n: usize) -> Option<(usize, Dep
     if x.shape.size <= p {
         return None;
     }
-    Some((byte_at(code, n, x.shape.at, p), with_ip(d, p + 1)))
+    Some((byte_at(code, n, x.shape.at, p), d.with_ip(p + 1)))
 }
 
 // `read_u16`
@@ -93,7 +93,7 @@ pub fn fetch_word(x: Running, d: Depths, code: &[u8], n: usize) -> Option<(usize
 pub fn past_end(x: Running, d: Depths) -> Depths
     ensures { result ≡ with_ip (max d.ip x.shape.size) d }
 {
-    with_ip(d, stacks::greater(d.ip, x.shape.size))
+    d.with_ip(d.ip.max(x.shape.size))
 }
 
 // Error 14

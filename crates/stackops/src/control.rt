@@ -7,8 +7,9 @@ ghost use Rattle.fetch.specs.Running.{Runs, Coded, CodedText};
 ghost use Rattle.stackops.specs.Control.{JumpIf};
 
 use fetch::{Running, cut_short, fetch_word};
-use outcome::{Stepped, ended, failed, push_value, settle, stopped, underflow, went, with_ip};
+use outcome::{Stepped, ended, failed, push_value, settle, stopped, underflow, went};
 use stacks::Depths;
+use texts::Texts;
 use value::{JsVmError, Value};
 
 pub fn jump(x: Running, d: Depths, code: &[u8], n: usize) -> Stepped
@@ -18,31 +19,31 @@ pub fn jump(x: Running, d: Depths, code: &[u8], n: usize) -> Stepped
     let Some((p, e)) = fetch_word(x, d, code, n) else {
         return cut_short(x, d);
     };
-    went(with_ip(e, p))
+    went(e.with_ip(p))
 }
 
-/// JumpIfTrue and JumpIfFalse: a jump where the truth of the operand is `TRUTH`. m bytes of text are in use.
+/// JumpIfTrue and JumpIfFalse: a jump where the truth of the operand is `TRUTH`.
 pub fn jump_if<const TRUTH: bool>(
     x: Running,
     d: Depths,
     code: &[u8],
     n: usize,
-    m: usize,
+    texts: &Texts,
     stacks: &[u64],
 ) -> Stepped
     requires ready { Ready d stacks.now }
     requires runs { Runs x d stacks.now }
     requires n_in_bounds { n ≤ length code.now }
-    ensures { (text : List ℕ) → m ≤ length text → Meets (CodedText x n code.now m text) (JumpIf TRUTH) d stacks.now result stacks.now }
+    ensures { Meets (CodedText x n code.now texts.now) (JumpIf TRUTH) d stacks.now result stacks.now }
 {
     let Some((p, e)) = fetch_word(x, d, code, n) else {
         return cut_short(x, d);
     };
-    let Some((v, f)) = stacks::pop(e, stacks) else {
+    let Some((v, f)) = e.pop(stacks) else {
         return underflow(e);
     };
-    if convert::to_boolean(n, m, v) == TRUTH {
-        return went(with_ip(f, p));
+    if convert::to_boolean(texts, v) == TRUTH {
+        return went(f.with_ip(p));
     }
     went(f)
 }
@@ -51,10 +52,10 @@ pub fn return_value(d: Depths, stacks: &mut [u64]) -> Stepped
     requires { Ready d stacks.old }
     ensures { Meets Any Return d stacks.old result stacks.new }
 {
-    let Some((v, e)) = stacks::pop(d, stacks) else {
+    let Some((v, e)) = d.pop(stacks) else {
         return underflow(d);
     };
-    let f = stacks::pop_frame(e, stacks);
+    let f = e.pop_frame(stacks);
     push_value(f, stacks, v)
 }
 
@@ -62,17 +63,16 @@ pub fn throw(d: Depths, stacks: &mut [u64]) -> Stepped
     requires { Ready d stacks.old }
     ensures { Meets Any Throw d stacks.old result stacks.new }
 {
-    let Some((v, e)) = stacks::pop(d, stacks) else {
+    let Some((v, e)) = d.pop(stacks) else {
         return underflow(d);
     };
-    let k = e.handlers;
-    if k == 0 {
+    let Some(k) = e.handlers.checked_sub(1) else {
         return failed(JsVmError::UncaughtException(v), e);
-    }
-    let h = stacks::read_handler(stacks, stacks::HANDLERS_AT + 3 * (k - 1));
-    let u = stacks::unwind(e, h, stacks);
-    match stacks::push(u, stacks, v) {
-        Ok(f) => went(with_ip(f, h.catch as usize)),
+    };
+    let h = stacks::read_handler(stacks, stacks::HANDLERS_AT + 3 * k);
+    let u = e.unwind(h, stacks);
+    match u.push(stacks, v) {
+        Ok(f) => went(f.with_ip(h.catch as usize)),
         Err(s) => stopped(s, u),
     }
 }
@@ -86,13 +86,13 @@ pub fn enter_try(x: Running, d: Depths, code: &[u8], n: usize, stacks: &mut [u64
     let Some((p, e)) = fetch_word(x, d, code, n) else {
         return cut_short(x, d);
     };
-    settle(stacks::push_handler(e, stacks, p as u64), e)
+    settle(e.push_handler(stacks, p as u64), e)
 }
 
 pub fn leave_try(d: Depths) -> Stepped
     ensures { (w : List ℕ) → Meets Any LeaveTry d w result w }
 {
-    went(stacks::pop_handler(d))
+    went(d.pop_handler())
 }
 
 // Also the step that finds no frame.
@@ -100,7 +100,7 @@ pub fn halt(d: Depths, stacks: &[u64]) -> Stepped
     requires { Ready d stacks.now }
     ensures { Meets Any Halt d stacks.now result stacks.now }
 {
-    let Some((v, e)) = stacks::pop(d, stacks) else {
+    let Some((v, e)) = d.pop(stacks) else {
         return ended(Ok(Value::Undefined), d);
     };
     ended(Ok(v), e)

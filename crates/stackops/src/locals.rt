@@ -19,7 +19,7 @@ pub fn load_local(x: Running, d: Depths, code: &[u8], n: usize, stacks: &mut [u6
     let Some((i, e)) = fetch_word(x, d, code, n) else {
         return cut_short(x, d);
     };
-    let v = stacks::read_slot(e, stacks, i);
+    let v = e.read_slot(stacks, i);
     push_value(e, stacks, v)
 }
 
@@ -32,10 +32,10 @@ pub fn store_local(x: Running, d: Depths, code: &[u8], n: usize, stacks: &mut [u
     let Some((i, e)) = fetch_word(x, d, code, n) else {
         return cut_short(x, d);
     };
-    let Some((v, f)) = stacks::pop(e, stacks) else {
+    let Some((v, f)) = e.pop(stacks) else {
         return underflow(e);
     };
-    settle(stacks::store(f, stacks, i, v), f)
+    settle(f.store(stacks, i, v), f)
 }
 
 pub fn get_this(d: Depths, stacks: &mut [u64]) -> Stepped
@@ -49,7 +49,7 @@ pub fn pop(d: Depths, stacks: &[u64]) -> Stepped
     requires { Ready d stacks.now }
     ensures { Meets Any Pop d stacks.now result stacks.now }
 {
-    let Some((_, e)) = stacks::pop(d, stacks) else {
+    let Some((_, e)) = d.pop(stacks) else {
         return underflow(d);
     };
     went(e)
@@ -59,6 +59,6 @@ pub fn dup(d: Depths, stacks: &mut [u64]) -> Stepped
     requires { Ready d stacks.old }
     ensures { Meets Any Dup d stacks.old result stacks.new }
 {
-    let v = stacks::top(d, stacks);
+    let v = d.top(stacks);
     push_value(d, stacks, v)
 }
