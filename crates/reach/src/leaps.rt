@@ -11,47 +11,22 @@ ghost use Rattle.readops.specs.Holds.{Callable};
 ghost use Rattle.heapops.specs.Turns.{mem, Loaded};
 ghost use Rattle.finish.specs.Parts.{Ground, tables};
 ghost use Rattle.quick.specs.Quickly.{Quickly, Inside};
-ghost use Rattle.reach.specs.Leaps.{Leaps, LeapStep, leap_of};
+ghost use Rattle.reach.specs.Leaps.{Leaps, LeapStep};
 
+use crate::with_count;
 use fetch::Running;
+use heap::Heap;
 use heapops::{Counts, with_depths};
-use outcome::{with_ip, with_operands};
 use quick::{byte_at, control, settle};
-use stacks::{Depths, minus};
+use readops::constants::is_text;
+use stacks::Depths;
 use texts::spell;
 use value::Value;
-
-fn leapt(q: Option<Depths>, m: usize) -> Option<(Depths, usize)>
-    ensures { result ≡ leap_of m q }
-{
-    match q {
-        Some(d) => Some((d, m)),
-        None => None,
-    }
-}
-
-fn is_text(v: Value) -> bool
-    ensures { result ≡ is_text (value_of v) }
-{
-    match v {
-        Value::Undefined => false,
-        Value::Null => false,
-        Value::Boolean(_) => false,
-        Value::Number(_) => false,
-        Value::CodeText(_, _) => true,
-        Value::MadeText(_, _) => true,
-        Value::Object(_) => false,
-        Value::Function(_) => false,
-    }
-}
 
 fn has_text(a: Value, b: Value) -> bool
     ensures { result ≡ is_text (value_of a) || is_text (value_of b) }
 {
-    if is_text(a) {
-        return true;
-    }
-    is_text(b)
+    is_text(a) || is_text(b)
 }
 
 // Add where an operand is a text.
@@ -71,11 +46,13 @@ pub fn join(c: Counts, code: &[u8], stacks: &mut [u64], text: &mut [u8]) -> Opti
     let b = value::read(stacks, k + 3);
     if has_text(a, b) {
         let m = c.text;
-        let Some(e) = spell::keep_joined(code, c.code, text, m, a, b) else {
-            return None;
-        };
-        value::write(stacks, k, Value::MadeText(m as u64, minus(e, m) as u64));
-        return Some((with_operands(d, n - 1), e));
+        let e = spell::keep_joined(code, c.code, text, m, a, b)?;
+        value::write(
+            stacks,
+            k,
+            Value::MadeText(m as u64, e.saturating_sub(m) as u64),
+        );
+        return Some((d.with_operands(n - 1), e));
     }
     None
 }
@@ -100,7 +77,7 @@ fn call(
     if x.shape.size <= p {
         return None;
     }
-    let e = with_ip(d, p + 1);
+    let e = d.with_ip(p + 1);
     let argc = byte_at(code, x.shape.at + p);
     let n = d.operands;
     if n <= argc {
@@ -110,12 +87,11 @@ fn call(
     let Value::Function(id) = value::read(stacks, 3 * k) else {
         return None;
     };
-    let Some((i, t)) = heap::function(c.sizes, heap, id) else {
-        return None;
-    };
+    let callee = Heap::new(c.sizes, heap).function(id)?;
+    let (i, t) = (callee.image, callee.template);
     let s = image::template_at(rows, starts, c.images, i as usize, t as usize);
-    let f = with_operands(e, k);
-    settle(stacks::call_frame(f, stacks, i, t, argc, s.param_count, s.local_count))
+    let f = e.with_operands(k);
+    settle(f.call_frame(stacks, i, t, argc, s.param_count, s.local_count))
 }
 
 // x is the template of the newest frame.
@@ -139,9 +115,9 @@ fn execute(
 {
     match op {
         10 => join(c, code, stacks, text),
-        50 => leapt(call(x, c, code, rows, starts, stacks, heap), c.text),
-        51 => leapt(control::return_value(c.depths, stacks), c.text),
-        74 => leapt(control::throw_far(c.depths, stacks), c.text),
+        50 => with_count(call(x, c, code, rows, starts, stacks, heap), c.text),
+        51 => with_count(control::return_value(c.depths, stacks), c.text),
+        74 => with_count(control::throw_far(c.depths, stacks), c.text),
         _ => None,
     }
 }
@@ -168,7 +144,7 @@ pub fn step(
     let p = d.ip;
     if p < x.shape.size {
         let op = byte_at(code, x.shape.at + p);
-        let e = with_depths(c, with_ip(d, p + 1));
+        let e = with_depths(c, d.with_ip(p + 1));
         return execute(op, x, e, code, rows, starts, stacks, heap, text);
     }
     None

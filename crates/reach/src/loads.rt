@@ -10,14 +10,14 @@ ghost use Rattle.quick.specs.Stays.{Stays};
 ghost use Rattle.reach.specs.Distinct.{Distinct};
 ghost use Rattle.reach.specs.Reaches.{quick_in, Sure};
 
-use crate::by_row;
-use crate::names::{global_named, name_at, property_named};
+use crate::names::{find_global, find_property, name_at};
+use crate::with_count;
 use fetch::Running;
 use heap::{GLOBALS_AT, PROPERTIES_AT};
 use heapops::Counts;
-use outcome::{with_ip, with_operands};
 use quick::push_from;
 use stacks::Depths;
+use texts::{cut, in_use};
 use value::Value;
 
 // `guess` is a row that may have the name; the row that has it is answered. So it is for every function here.
@@ -42,24 +42,11 @@ pub fn load_global(
     ensures stays { Stays c.depths stacks.old (quick_in result) stacks.new }
 {
     let d = c.depths;
-    let e = with_ip(d, d.ip + 2);
-    let Some((at, size)) = name_at(x, i, code, places) else {
-        return None;
-    };
-    let Some(j) = global_named(
-        at,
-        size,
-        code,
-        c.code,
-        text,
-        c.text,
-        heap,
-        c.sizes.globals,
-        guess,
-    ) else {
-        return None;
-    };
-    by_row(push_from(e, stacks, heap, GLOBALS_AT + 6 * j + 3), j)
+    let e = d.with_ip(d.ip + 2);
+    let (at, size) = name_at(x, i, code, places)?;
+    let name = cut(in_use(code, c.code), at, size);
+    let j = find_global(in_use(text, c.text), heap, c.sizes.globals, name, guess)?;
+    with_count(push_from(e, stacks, heap, GLOBALS_AT + 6 * j + 3), j)
 }
 
 pub fn load_property(
@@ -83,7 +70,7 @@ pub fn load_property(
     ensures stays { Stays c.depths stacks.old (quick_in result) stacks.new }
 {
     let d = c.depths;
-    let e = with_ip(d, d.ip + 2);
+    let e = d.with_ip(d.ip + 2);
     let n = e.operands;
     if n == 0 {
         return None;
@@ -94,23 +81,16 @@ pub fn load_property(
     if c.sizes.objects as u64 <= id {
         return None;
     }
-    let Some((at, size)) = name_at(x, i, code, places) else {
-        return None;
-    };
-    let Some(j) = property_named(
-        at,
-        size,
-        code,
-        c.code,
-        text,
-        c.text,
+    let (at, size) = name_at(x, i, code, places)?;
+    let key = cut(in_use(code, c.code), at, size);
+    let j = find_property(
+        in_use(text, c.text),
         heap,
         c.sizes.properties,
         id,
+        key,
         guess,
-    ) else {
-        return None;
-    };
-    let f = with_operands(e, n - 1);
-    by_row(push_from(f, stacks, heap, PROPERTIES_AT + 6 * j + 3), j)
+    )?;
+    let f = e.with_operands(n - 1);
+    with_count(push_from(f, stacks, heap, PROPERTIES_AT + 6 * j + 3), j)
 }
