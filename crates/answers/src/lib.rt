@@ -8,13 +8,13 @@ ghost use Rattle.value.specs.Words.{value_of};
 ghost use Rattle.run.specs.Runs.{result_of};
 ghost use Rattle.host.specs.Calls.{answer_of_numbered, counts_of_numbered, answer_of_changed, counts_of_changed, answer_of_read, answer_of_run, counts_of_run};
 ghost use Rattle.answers.specs.Flat.{answer, told, told_value, told_run, flat_text, flat_drain, error_opcode, opcode_of, value_by};
-ghost use Rattle.answers.specs.Written.{write_told, told_write};
+ghost use Rattle.answers.specs.Written.{told_write};
 
 use heapops::Counts;
 use host::{Changed, Drained, GlobalRead, Numbered, RunAnswer, Wrote};
-use run::{Ending, Ran};
-use value::{JsVmError, Value, Words};
-use writer::{Writer, Written};
+use run::Ran;
+use value::{JsVmError, Stop, Value, Words};
+use writer::{WriteError, Writer};
 
 // A call's number, 0 where it was accepted; an image's number or the bytes written; and what is in use then.
 #[repr(C)]
@@ -57,7 +57,7 @@ pub struct WriteTold {
 pub fn decoded(w: Words) -> Value
     ensures { value_of result ≡ value_by w }
 {
-    value::decode(w.kind, w.first, w.second)
+    Value::from(w)
 }
 
 pub fn changed(counts: Counts, x: Changed) -> Answer
@@ -122,11 +122,11 @@ pub fn valued(x: GlobalRead) -> ValueAnswer
     match x {
         GlobalRead::Valued(v) => ValueAnswer {
             number: 0,
-            value: value::encode(v),
+            value: Words::from(v),
         },
         GlobalRead::Refused(n) => ValueAnswer {
             number: n,
-            value: value::encode(Value::Undefined),
+            value: Words::from(Value::Undefined),
         },
     }
 }
@@ -141,7 +141,7 @@ pub fn ran(counts: Counts, x: RunAnswer) -> RunTold
             started: 0,
             steps: 0,
             opcode: 0,
-            value: value::encode(Value::Undefined),
+            value: Words::from(Value::Undefined),
             counts,
         },
     }
@@ -158,19 +158,19 @@ fn started(x: Ran) -> RunTold
         started: 1,
         steps: x.steps,
         opcode: opcode_in(e),
-        value: value::encode(v),
+        value: Words::from(v),
         counts,
     }
 }
 
 // The byte of error 13.
-fn opcode_in(e: Ending) -> u64
+fn opcode_in(e: Result<Value, Stop>) -> u64
     ensures { result ≡ opcode_of (result_of e) }
 {
     match e {
-        Ending::Finished(_) => 0,
-        Ending::Failed(q) => opcode_of(q),
-        Ending::Full(_) => 0,
+        Ok(_) => 0,
+        Err(Stop::Failed(q)) => opcode_of(q),
+        Err(Stop::Refused(_)) => 0,
     }
 }
 
@@ -190,17 +190,14 @@ fn opcode_of(e: JsVmError) -> u64
     }
 }
 
-pub fn written(w: Writer, x: Written) -> WriteTold
+pub fn written(w: Writer, x: Result<Writer, WriteError>) -> WriteTold
     ensures { result ≡ told_write w x }
 {
     match x {
-        Written::Wrote(y) => write_told(0, y),
-        Written::Refused(n) => write_told(n, w),
+        Ok(writer) => WriteTold { number: 0, writer },
+        Err(e) => WriteTold {
+            number: u64::from(e),
+            writer: w,
+        },
     }
-}
-
-fn write_told(number: u64, writer: Writer) -> WriteTold
-    ensures { result ≡ write_told number writer }
-{
-    WriteTold { number, writer }
 }

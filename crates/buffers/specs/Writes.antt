@@ -1,15 +1,13 @@
 -- What drain and the text call write to a caller's buffer. Assumes nothing.
-use Rattle.std.specs.Prelude.{ℕ, ◌+◌, ◌≤◌, Bool, true, false, List, ◌++◌, ◌≡◌, refl, leb, length, get_or, take, drop}
+use Rattle.std.specs.Prelude.{ℕ, ◌+◌, ◌≤◌, Bool, true, false, List, ◌++◌, ◌≡◌, refl, leb, length, get_or, take, drop, Option, Some, None}
 use Rattle.std.proofs.Common.{arith, sym, ap, subst, ◌∙◌, length-append, take_at, length-take-le}
-use Rattle.std.proofs.Math.Option.{Option, none}
+use Rattle.std.proofs.Math.Option.{Option as Maybe, none}
 use Rattle.std.specs.Prelude.{if◌then◌else◌}
 use Rattle.machine.specs.State as St
 use Rattle.machine.specs.Act.{Given}
 use Rattle.machine.specs.Fields as Fi
 use Rattle.machine.specs.Out.{out_next}
 use Rattle.machine.specs.Host as H
-use Rattle.number.specs.declared.format.Formatted.{Formatted}
-use Rattle.number.specs.declared.format.Formatted.TheVariants.{Bytes, TooShort}
 use Rattle.value.specs.Lists.{bytes_of, row_none}
 use Rattle.texts.specs.Overwrite.{overwrite}
 use Rattle.texts.specs.Spans.{bytes_take}
@@ -23,37 +21,37 @@ use Rattle.host.specs.Lent.{Lent, lent_lengths, lent_within, lent_by}
 use Rattle.host.specs.Performs.{comes_went, called_no, called_done}
 
 -- What was written, by the answer
-abbrev size_in : Formatted → ℕ
-size_in (Bytes n) = n
-size_in TooShort = 0
+abbrev size_in : Option ℕ → ℕ
+size_in (Some n) = n
+size_in None = 0
 
-abbrev Fits : Formatted → Type 0
-Fits (Bytes n) = Unit {0}
-Fits TooShort = ⊥
+abbrev Fits : Option ℕ → Type 0
+Fits (Some n) = Unit {0}
+Fits None = ⊥
 
 pub record Fitted (t b : List ℕ) (k : ℕ) (b' : List ℕ) : Type 0 where
   pub room : leb (length t) (length b) ≡ true
   pub size : k ≡ length t
   pub bytes : b' ≡ t ++ drop (length t) b
 
-fitted_by : (q : Bool) (t b b' : List ℕ) (r : Formatted) (k : ℕ) → leb (length t) (length b) ≡ q
-    → r ≡ (if q then Bytes (length t) else TooShort) → b' ≡ (if q then t ++ drop (length t) b else b) → r ≡ Bytes k → Fitted t b k b'
+fitted_by : (q : Bool) (t b b' : List ℕ) (r : Option ℕ) (k : ℕ) → leb (length t) (length b) ≡ q
+    → r ≡ (if q then Some (length t) else None) → b' ≡ (if q then t ++ drop (length t) b else b) → r ≡ Some k → Fitted t b k b'
 fitted_by true t b b' r k h a f e = record { room = h; size = ap size_in (sym e ∙ a); bytes = f }
 fitted_by false t b b' r k h a f e = absurd (subst Fits (sym e ∙ a) tt)
 
-pub fitted : {t b b' : List ℕ} {r : Formatted} {k : ℕ} → Writes t b r b' → r ≡ Bytes k → Fitted t b k b'
+pub fitted : {t b b' : List ℕ} {r : Option ℕ} {k : ℕ} → Writes t b r b' → r ≡ Some k → Fitted t b k b'
 fitted {t} {b} {b'} {r} {k} f e = fitted_by (leb (length t) (length b)) t b b' r k refl f.answer f.buffer e
 
 pub record Short (t b b' : List ℕ) : Type 0 where
   pub room : leb (length t) (length b) ≡ false
   pub bytes : b' ≡ b
 
-short_by : (q : Bool) (t b b' : List ℕ) (r : Formatted) → leb (length t) (length b) ≡ q
-    → r ≡ (if q then Bytes (length t) else TooShort) → b' ≡ (if q then t ++ drop (length t) b else b) → r ≡ TooShort → Short t b b'
+short_by : (q : Bool) (t b b' : List ℕ) (r : Option ℕ) → leb (length t) (length b) ≡ q
+    → r ≡ (if q then Some (length t) else None) → b' ≡ (if q then t ++ drop (length t) b else b) → r ≡ None → Short t b b'
 short_by true t b b' r h a f e = absurd (subst Fits (sym a ∙ e) tt)
 short_by false t b b' r h a f e = record { room = h; bytes = f }
 
-pub short : {t b b' : List ℕ} {r : Formatted} → Writes t b r b' → r ≡ TooShort → Short t b b'
+pub short : {t b b' : List ℕ} {r : Option ℕ} → Writes t b r b' → r ≡ None → Short t b b'
 short {t} {b} {b'} {r} f e = short_by (leb (length t) (length b)) t b b' r refl f.answer f.buffer e
 
 pub fitted_start : {t b b' : List ℕ} {k : ℕ} → Fitted t b k b' → bytes_of b' k ≡ t
@@ -74,7 +72,7 @@ abbrev pub emptied : Counts → Counts
 emptied c = record { depths = c.depths; sizes = c.sizes; code = c.code; images = c.images; text = c.text; output = 0 }
 
 -- the text call's questions
-abbrev asks : Bool → Bool → Bool → Option ℕ
+abbrev asks : Bool → Bool → Bool → Maybe ℕ
 asks x y z = H.ask 29 x (H.ask 30 y (H.ask 31 z none))
 
 module _ {c : Counts} {g : Tables} {m : Mem} (e : Lent c g m) where
@@ -103,14 +101,14 @@ module _ {c : Counts} {g : Tables} {m : Mem} (e : Lent c g m) where
     output = omega arith;
   })
 
-  module _ {b b' : List ℕ} {r : Formatted} (f : Writes (take c.output m.output) b r b') where
-    pub drain_short : r ≡ TooShort → Called (H.drain (length b)) c g m (H.refusal 31) c g m × Buffered (H.refusal 31) b b'
+  module _ {b b' : List ℕ} {r : Option ℕ} (f : Writes (take c.output m.output) b r b') where
+    pub drain_short : r ≡ None → Called (H.drain (length b)) c g m (H.refusal 31) c g m × Buffered (H.refusal 31) b b'
     drain_short q =
         let s = short f q in
         let k : leb (length (bytes_of m.output c.output)) (length b) ≡ false = rw output_in_use s.room in
         (called_no e (ap (λ (x : Bool). H.ask 31 x none) k), record { bytes = s.bytes })
 
-    pub drain_bytes : (k : ℕ) → r ≡ Bytes k → Called (H.drain (length b)) c g m (H.wrote (bytes_of b' k)) (emptied c) g m × Buffered (H.wrote (bytes_of b' k)) b b'
+    pub drain_bytes : (k : ℕ) → r ≡ Some k → Called (H.drain (length b)) c g m (H.wrote (bytes_of b' k)) (emptied c) g m × Buffered (H.wrote (bytes_of b' k)) b b'
     drain_bytes k q =
         let s = fitted f q in
         let h : leb (length (bytes_of m.output c.output)) (length b) ≡ true = rw output_in_use s.room in
@@ -138,11 +136,11 @@ module _ {c : Counts} {g : Tables} {m : Mem} (e : Lent c g m) where
         asked : (n : ℕ) {z : Bool} → fits n ≡ z → H.questions (H.text v n) (state_in c g m) ≡ H.ask 31 z none
         asked n h = ap (λ (x : Bool). asks x given (fits n)) p ∙ ap (λ (y : Bool). asks true y (fits n)) q ∙ ap (λ (z : Bool). H.ask 31 z none) h
 
-        module _ {b b' : List ℕ} {r : Formatted} (t : Writes (H.given_text (St.bytes (state_in c g m)) v) b r b') where
-          pub text_31 : r ≡ TooShort → Called (H.text v (length b)) c g m (H.refusal 31) c g m × Buffered (H.refusal 31) b b'
+        module _ {b b' : List ℕ} {r : Option ℕ} (t : Writes (H.given_text (St.bytes (state_in c g m)) v) b r b') where
+          pub text_31 : r ≡ None → Called (H.text v (length b)) c g m (H.refusal 31) c g m × Buffered (H.refusal 31) b b'
           text_31 h = let s = short t h in (called_no e (asked (length b) s.room), record { bytes = s.bytes })
 
-          pub text_bytes : (k : ℕ) → r ≡ Bytes k → Called (H.text v (length b)) c g m (H.wrote (bytes_of b' k)) c g m × Buffered (H.wrote (bytes_of b' k)) b b'
+          pub text_bytes : (k : ℕ) → r ≡ Some k → Called (H.text v (length b)) c g m (H.wrote (bytes_of b' k)) c g m × Buffered (H.wrote (bytes_of b' k)) b b'
           text_bytes k h =
               let s = fitted t h in
               let z = comes_went (H.text v (length b)) (state_in c g m) (asked (length b) s.room) (state_in c g m) (out_next (state_in c g m)) in (

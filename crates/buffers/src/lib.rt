@@ -12,7 +12,6 @@ ghost use Rattle.host.specs.Calls.{Called, Buffered, answer_of_text, answer_of_d
 use heapops::Counts;
 use host::questions::{handle_fine, is_ascii, lent};
 use host::{Drained, Wrote};
-use number::format::Formatted;
 use value::Value;
 
 pub fn text_of<'a>(
@@ -34,8 +33,8 @@ pub fn text_of<'a>(
     if lent(code, places, rows, starts, stacks, heap, text, output, c) {
         if handle_fine(code, c.code, text, c.text, v) {
             match texts::output::write_text(code, c.code, text, c.text, v, buffer) {
-                Formatted::Bytes(n) => return Wrote::Bytes(n),
-                Formatted::TooShort => return Wrote::Refused(31),
+                Some(n) => return Wrote::Bytes(n),
+                None => return Wrote::Refused(31),
             }
         }
         return Wrote::Refused(30);
@@ -63,8 +62,8 @@ pub fn text_of_bytes(
     if lent(code, places, rows, starts, stacks, heap, text, output, c) {
         if is_ascii(given) {
             match texts::output::write_bytes(given, buffer) {
-                Formatted::Bytes(k) => return Wrote::Bytes(k),
-                Formatted::TooShort => return Wrote::Refused(31),
+                Some(k) => return Wrote::Bytes(k),
+                None => return Wrote::Refused(31),
             }
         }
         return Wrote::Refused(29);
@@ -90,8 +89,8 @@ pub fn drain(
     if lent(code, places, rows, starts, stacks, heap, text, output, c) {
         let n = c.output;
         match texts::output::write_bytes(&output[..n], buffer) {
-            Formatted::TooShort => return Drained::Refused(31),
-            Formatted::Bytes(k) => {
+            None => return Drained::Refused(31),
+            Some(k) => {
                 let mut e = c;
                 e.output = 0;
                 return Drained::Bytes(k, e);

@@ -1,5 +1,5 @@
 -- Load's call over the image's load. Assumes nothing.
-use Rattle.std.specs.Prelude.{ℕ, ◌+◌, ◌≤◌, Bool, true, false, ◌&&◌, List, ◌≡◌, refl, eqb, leb, length}
+use Rattle.std.specs.Prelude.{ℕ, ◌+◌, ◌≤◌, Bool, true, false, ◌&&◌, List, ◌≡◌, refl, eqb, leb, length, Ok, Err}
 use Rattle.std.proofs.Math.Option.{Option, none, some}
 use Rattle.std.proofs.Common.{sym, ap, subst, ◌∙◌, leb-true}
 use Rattle.machine.specs.Fields.{set_code}
@@ -11,10 +11,10 @@ use Rattle.texts.specs.Keeps.{text_limit, output_limit}
 use Rattle.stacks.specs.Layout.{stack_words}
 use Rattle.heap.specs.Layout.{heap_words}
 use Rattle.image.specs.Load as I
-use Rattle.image.specs.Load.{Stores, Loads, or_else, unless}
+use Rattle.image.specs.Load.{Stores, Loaded, Loads, or_else, unless}
+use Rattle.image.specs.Errors.{asked}
 use Rattle.image.specs.declared.ImageCounts.{ImageCounts}
-use Rattle.image.specs.declared.Loaded.{Loaded}
-use Rattle.image.specs.declared.Loaded.TheVariants.{Done, Refused}
+use Rattle.image.specs.declared.error.LoadError.{LoadError}
 use Rattle.heapops.specs.declared.Counts.{Counts}
 use Rattle.heapops.specs.Turns.{Mem}
 use Rattle.finish.specs.Parts.{Tables}
@@ -72,19 +72,19 @@ module _ {c : Counts} {g g' : Tables} {m : Mem} {bs : List ℕ} {r : Loaded} (e 
   loads q = subst (λ (x : Loaded). Loads (stores_of g) (stores_of g') (image_counts c) bs x) q k
 
   -- The image is refused.
-  pub load_refused : {q : ℕ} → r ≡ Refused q → Called (H.load bs) c g m (H.refusal q) c g' m
+  pub load_refused : {q : LoadError} → r ≡ Err q → Called (H.load bs) c g m (H.refusal (asked q)) c g' m
   load_refused {q} h =
       let l = loads h in
       let same : g' ≡ g = ap tables_of l.leaves in
       record {
-        machine = λ r. comes_lent (H.load bs) e (called c g g' m bs (Refused q) l e (r e.right));
+        machine = λ r. comes_lent (H.load bs) e (called c g g' m bs (Err q) l e (r e.right));
         refused = λ n f. (refl, same, refl);
         stands = λ t s. (ap (λ (x : Tables). lent c x m) same ∙ t, l.sound s);
         placed = λ z. z;
       }
 
   -- It is accepted.
-  pub load_done : {i : ℕ} {d : ImageCounts} → r ≡ Done i d → length g'.code ≡ length g.code → length g'.places ≡ length g.places → length g'.rows ≡ length g.rows
+  pub load_done : {i : ℕ} {d : ImageCounts} → r ≡ Ok (i, d) → length g'.code ≡ length g.code → length g'.places ≡ length g.places → length g'.rows ≡ length g.rows
       → length g'.starts ≡ length g.starts → Called (H.load bs) c g m (H.numbered i) (with_images d c) g' m
   load_done {i} {d} h a b u w =
       let l = loads h in
@@ -109,7 +109,7 @@ module _ {c : Counts} {g g' : Tables} {m : Mem} {bs : List ℕ} {r : Loaded} (e 
         output = y.output;
       }) in
       record {
-        machine = λ r. comes_lent (H.load bs) e (called c g g' m bs (Done i d) l e (r e.right));
+        machine = λ r. comes_lent (H.load bs) e (called c g g' m bs (Ok (i, d)) l e (r e.right));
         refused = λ n f. (cc, cc, refl);
         stands = λ t s. (right, l.sound s);
         placed = λ z. z;

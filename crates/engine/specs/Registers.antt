@@ -1,7 +1,7 @@
 -- Register's law: a template that is in a loaded image, and a function more. Assumes nothing.
-use Rattle.std.specs.Prelude.{ℕ, ◌+◌, ◌*◌, ◌≤◌, ◌<◌, Bool, true, false, ◌&&◌, List, [], ◌≡◌, refl, leb, ltb, length, get_or}
+use Rattle.std.specs.Prelude.{ℕ, ◌+◌, ◌*◌, ◌≤◌, ◌<◌, Bool, true, false, ◌&&◌, List, [], ◌≡◌, refl, leb, ltb, length, get_or, Option, Result, Ok, Err}
 use Rattle.std.proofs.Common.{arith, sym, ap, subst, ◌∙◌, lt-ltb, le-ltb, le-leb}
-use Rattle.std.proofs.Math.Option.{Option, none}
+use Rattle.std.proofs.Math.Option.{Option as Maybe, none}
 use Rattle.std.proofs.lemmas.Bool.{lt-leb}
 use Rattle.machine.specs.State as St
 use Rattle.machine.specs.Act as A
@@ -13,8 +13,6 @@ use Rattle.value.specs.Lists.{row_length}
 use Rattle.texts.specs.Keeps.{on_text, on_output}
 use Rattle.stacks.specs.View.{on_stacks}
 use Rattle.heap.specs.View.{Grows, function_at}
-use Rattle.heap.specs.declared.Grown.{Grown}
-use Rattle.heap.specs.declared.Grown.TheVariants.{Went, Refused}
 use Rattle.image.specs.View.{images_of}
 use Rattle.heapops.specs.declared.Counts.{Counts}
 use Rattle.heapops.specs.Turns.{Mem}
@@ -25,11 +23,13 @@ use Rattle.host.specs.declared.Numbered.TheVariants.{Done as Numbered-as-Done, R
 use Rattle.host.specs.Calls.{Called, answer_of_numbered, counts_of_numbered}
 use Rattle.host.specs.Lent.{Lent, lent_within, lent_stored, with_stored, mem_stored, images_length}
 use Rattle.host.specs.Performs.{comes_went, called_no, called_full, called_done}
+use Rattle.value.specs.declared.Space.{Space}
+use Rattle.heap.specs.declared.Sizes.{Sizes}
 
 -- The function's number is how many there were.
-abbrev pub added : Counts → Grown → Numbered
-added c (Went z) = Numbered-as-Done c.sizes.functions (with_stored z c.text c)
-added c (Refused q) = Numbered-as-Refused (St.question (space_of q))
+abbrev pub added : Counts → Result Sizes Space → Numbered
+added c (Ok z) = Numbered-as-Done c.sizes.functions (with_stored z c.text c)
+added c (Err q) = Numbered-as-Refused (St.question (space_of q))
 
 module _ {c : Counts} {g : Tables} {m : Mem} (i t : ℕ) (e : Lent c g m) where
   abbrev templates : ℕ
@@ -72,16 +72,16 @@ module _ {c : Counts} {g : Tables} {m : Mem} (i t : ℕ) (e : Lent c g m) where
         abbrev rest : St.State
         rest = on_stacks c.depths m.stacks (on_text c.text m.text (on_output c.output m.output (ground_of c g)))
 
-        add : (r : Grown) {w : List ℕ} → Grows (A.add_function i t) c.sizes m.heap r w
+        add : (r : Result Sizes Space) {w : List ℕ} → Grows (A.add_function i t) c.sizes m.heap r w
             → Called (H.register i t) c g m (answer_of_numbered (added c r)) (counts_of_numbered c (added c r)) g (mem_stored w m.text m)
-        add (Refused q) f = called_full e (space_of q) none_asked (f.goes rest next) refl (ap (λ (x : List ℕ). mem_stored x m.text m) f.ready)
-        add (Went z) {w} f =
+        add (Err q) f = called_full e (space_of q) none_asked (f.goes rest next) refl (ap (λ (x : List ℕ). mem_stored x m.text m) f.ready)
+        add (Ok z) {w} f =
             let goes : out (H.makes (H.register i t)) (state_in c g m) ≡ went (state_in (with_stored z c.text c) g (mem_stored w m.text m)) = f.goes rest next ∙ out_next _ in
             let p = comes_went (H.register i t) (state_in c g m) none_asked _ goes in
             called_done e refl
             (ap (λ (x : H.Called). x.answer) p.0 ∙ ap H.numbered (row_length c.sizes.functions (λ j. function_at m.heap (0 + 2 * j))), ap (λ (x : H.Called). x.after) p.0 ∙ p.1)
             (lent_stored m.text e f.ready (lent_within e).text refl) (λ s. s) (λ z. z)
 
-        pub register_added : {r : Grown} {w : List ℕ} {x : Numbered} → Grows (A.add_function i t) c.sizes m.heap r w → x ≡ added c r
+        pub register_added : {r : Result Sizes Space} {w : List ℕ} {x : Numbered} → Grows (A.add_function i t) c.sizes m.heap r w → x ≡ added c r
             → Called (H.register i t) c g m (answer_of_numbered x) (counts_of_numbered c x) g (mem_stored w m.text m)
         register_added {r} {w} f q = subst (λ (x : Numbered). Called (H.register i t) c g m (answer_of_numbered x) (counts_of_numbered c x) g (mem_stored w m.text m)) (sym q) (add r f)

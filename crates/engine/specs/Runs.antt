@@ -1,5 +1,5 @@
 -- The laws of a run: its own frame, and then the machine's steps. Assumes nothing.
-use Rattle.std.specs.Prelude.{ℕ, ◌≤◌, ◌<◌, Bool, true, false, List, [], ◌≡◌, refl, ltb, length}
+use Rattle.std.specs.Prelude.{ℕ, ◌≤◌, ◌<◌, Bool, true, false, List, [], ◌≡◌, refl, ltb, length, Result, Ok, Err}
 use Rattle.std.proofs.Math.Option.{none}
 use Rattle.std.proofs.Common.{sym, ap, subst, ◌∙◌, lt-ltb, le-ltb}
 use Rattle.machine.specs.State as St
@@ -19,8 +19,6 @@ use Rattle.value.specs.declared.JsVmError.{JsVmError}
 use Rattle.stacks.specs.Laws.{top_length}
 use Rattle.stacks.specs.View as Stacks
 use Rattle.stacks.specs.declared.Depths.{Depths}
-use Rattle.stacks.specs.declared.Made.{Made}
-use Rattle.stacks.specs.declared.Made.TheVariants.{Went, Failed, Refused}
 use Rattle.image.specs.View.{images_of}
 use Rattle.image.specs.Load.{Sound}
 use Rattle.image.specs.declared.ImageCounts.{ImageCounts}
@@ -33,6 +31,8 @@ use Rattle.run.specs.declared.Ran.{Ran}
 use Rattle.host.specs.Calls.{lent, stores_of, image_counts, Called}
 use Rattle.host.specs.Lent.{Lent, lent_by, lent_lengths, lent_within, whole_lent, images_length}
 use Rattle.host.specs.Performs.{Comes, comes_failed, comes_went, called_no, called_full, called_refused, called_sure}
+use Rattle.value.specs.declared.Stop.{Stop}
+use Rattle.value.specs.declared.Stop.TheVariants.{Failed, Refused}
 
 limit_is : R.step_limit ≡ R.max_steps
 unfolding R.step_limit
@@ -97,28 +97,28 @@ module _ {c : Counts} {g : Tables} {m : Mem} (i : ℕ) (e : Lent c g m) where
       let q : ltb i (length (state_in c g m).images) ≡ false = le-ltb i _ (rw images_length h) in
       called_no e (ap (λ (b : Bool). H.ask 10 b none) q)
 
-  module _ (b : i < c.images) {r : Made} {w : List ℕ} (k : Stacks.Makes (A.push_frame i 0 []) c.depths m.stacks r w) where
+  module _ (b : i < c.images) {r : Result Depths Stop} {w : List ℕ} (k : Stacks.Makes (A.push_frame i 0 []) c.depths m.stacks r w) where
     found : ltb i (length (state_in c g m).images) ≡ true
     found = lt-ltb i _ (rw images_length b)
 
-    made : {x : Made} → r ≡ x → out (make (A.push_frame i 0 []) next) (state_in c g m) ≡ Stacks.made_then x next c.depths w (below c m (ground_of c g))
-    made q = k.goes (below c m (ground_of c g)) next ∙ ap (λ (x : Made). Stacks.made_then x next c.depths w (below c m (ground_of c g))) q
+    made : {x : Result Depths Stop} → r ≡ x → out (make (A.push_frame i 0 []) next) (state_in c g m) ≡ Stacks.made_then x next c.depths w (below c m (ground_of c g))
+    made q = k.goes (below c m (ground_of c g)) next ∙ ap (λ (x : Result Depths Stop). Stacks.made_then x next c.depths w (below c m (ground_of c g))) q
 
     same_stacks : w ≡ m.stacks → with_stacks w m ≡ m
     same_stacks q = ap (λ (x : List ℕ). with_stacks x m) q
 
-    pub start_full : {q : Space} {n : ℕ} → r ≡ Refused q → n ≡ St.question (space_of q) → Called (H.run i) c g m (H.refusal n) c g (with_stacks w m)
+    pub start_full : {q : Space} {n : ℕ} → r ≡ Err (Refused q) → n ≡ St.question (space_of q) → Called (H.run i) c g m (H.refusal n) c g (with_stacks w m)
     start_full {q} {n} u v =
-        let z : w ≡ m.stacks = subst (λ (x : Made). Stacks.MadeReady x m.stacks w) u k.ready in
+        let z : w ≡ m.stacks = subst (λ (x : Result Depths Stop). Stacks.MadeReady x m.stacks w) u k.ready in
         called_full e (space_of q) (asked i (state_in c g m) found) (made u) v (same_stacks z)
 
-    pub start_failed : {q : JsVmError} {n : ℕ} → r ≡ Failed q → n ≡ E.error_number (error_of q) → Called (H.run i) c g m (H.refusal n) c g (with_stacks w m)
+    pub start_failed : {q : JsVmError} {n : ℕ} → r ≡ Err (Failed q) → n ≡ E.error_number (error_of q) → Called (H.run i) c g m (H.refusal n) c g (with_stacks w m)
     start_failed {q} {n} u v =
-        let z : w ≡ m.stacks = subst (λ (x : Made). Stacks.MadeReady x m.stacks w) u k.ready in
+        let z : w ≡ m.stacks = subst (λ (x : Result Depths Stop). Stacks.MadeReady x m.stacks w) u k.ready in
         let p = comes_failed (H.run i) (state_in c g m) (asked i (state_in c g m) found) (error_of q) _ (made u) in
         called_refused e (same_stacks z) (p.0 ∙ ap H.refusal (sym v), p.1)
 
-    module _ {d : Depths} (u : r ≡ Went d) where
+    module _ {d : Depths} (u : r ≡ Ok d) where
       goes : out (make (A.push_frame i 0 []) next) (state_in c g m) ≡ went (state_in (with_depths d c) g (with_stacks w m))
       goes = made u ∙ out_next (state_in (with_depths d c) g (with_stacks w m))
 
@@ -128,7 +128,7 @@ module _ {c : Counts} {g : Tables} {m : Mem} (i : ℕ) (e : Lent c g m) where
         code = refl;
         images = refl;
         codes = f.codes;
-        stacks = (subst (λ (x : Made). Stacks.MadeReady x m.stacks w) u k.ready).size;
+        stacks = (subst (λ (x : Result Depths Stop). Stacks.MadeReady x m.stacks w) u k.ready).size;
         heap = f.heap;
         text = f.text;
         output = f.output;

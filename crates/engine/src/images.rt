@@ -6,19 +6,20 @@ ghost use Rattle.finish.specs.Parts.{tables};
 ghost use Rattle.host.specs.Calls.{Called, answer_of_numbered, counts_of_numbered};
 ghost use Rattle.engine.specs.Registers.{added};
 
-use heap::Grown;
+use heap::Sizes;
 use heapops::Counts;
 use host::Numbered;
 use host::questions::lent;
 use image::ImageCounts;
+use value::Space;
 
 // What came of a function more.
-fn settle(c: Counts, r: Grown) -> Numbered
+fn settle(c: Counts, r: Result<Sizes, Space>) -> Numbered
     ensures { result ≡ added c r }
 {
     match r {
-        Grown::Refused(q) => Numbered::Refused(run::question(q)),
-        Grown::Went(z) => {
+        Err(q) => Numbered::Refused(run::question(q)),
+        Ok(z) => {
             let n = c.sizes.functions;
             let mut e = c;
             e.sizes = z;
@@ -47,10 +48,10 @@ pub fn load(
             images: c.images,
         };
         match image::load(code, places, rows, starts, held, image) {
-            image::Loaded::Refused(q) => {
-                return Numbered::Refused(q);
+            Err(q) => {
+                return Numbered::Refused(u64::from(q));
             }
-            image::Loaded::Done(i, d) => {
+            Ok((i, d)) => {
                 let mut e = c;
                 e.code = d.code;
                 e.images = d.images;

@@ -9,7 +9,7 @@ ghost use Rattle.host.specs.Lent.{Lent};
 use heapops::Counts;
 use host::RunAnswer;
 use host::questions::lent;
-use stacks::Made;
+use value::Stop;
 
 // A run's own frame, and its steps.
 fn start(
@@ -27,10 +27,10 @@ fn start(
     requires { Lent c (tables code.now places.now rows.now starts.now) (mem stacks.old heap.old text.old output.old) × (image < c.images) }
     ensures { Called (Host.run image) c (tables code.now places.now rows.now starts.now) (mem stacks.old heap.old text.old output.old) (answer_of_run result) (counts_of_run c result) (tables code.now places.now rows.now starts.now) (mem stacks.new heap.new text.new output.new) }
 {
-    match stacks::push_frame(c.depths, stacks, image as u64, 0) {
-        Made::Refused(q) => RunAnswer::Refused(run::question(q)),
-        Made::Failed(e) => RunAnswer::Refused(run::error_number(e)),
-        Made::Went(d) => {
+    match c.depths.push_frame(stacks, image as u64, 0) {
+        Err(Stop::Refused(q)) => RunAnswer::Refused(run::question(q)),
+        Err(Stop::Failed(e)) => RunAnswer::Refused(run::error_number(e)),
+        Ok(d) => {
             let begun = heapops::with_depths(c, d);
             RunAnswer::Ran(run::run_loop(
                 begun, code, places, rows, starts, stacks, heap, text, output,

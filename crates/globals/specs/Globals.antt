@@ -1,6 +1,6 @@
 -- The laws of set global and read global. Assumes nothing.
-use Rattle.std.specs.Prelude.{ℕ, Bool, true, false, ◌&&◌, List, ◌≡◌, refl, length, take}
-use Rattle.std.proofs.Math.Option.{Option, none}
+use Rattle.std.specs.Prelude.{ℕ, Bool, true, false, ◌&&◌, List, ◌≡◌, refl, length, take, Option, Result, Ok, Err}
+use Rattle.std.proofs.Math.Option.{Option as Maybe, none}
 use Rattle.std.proofs.Common.{sym, ap, subst, ◌∙◌}
 use Rattle.std.proofs.Math.Seq.{take-length}
 use Rattle.machine.specs.Basic.{is_ascii}
@@ -18,8 +18,6 @@ use Rattle.stacks.specs.View.{on_stacks}
 use Rattle.heap.specs.View.{globals_of}
 use Rattle.heap.specs.Finds.{stores, global_in}
 use Rattle.objects.specs.View.{Puts}
-use Rattle.objects.specs.declared.Placed.{Placed}
-use Rattle.objects.specs.declared.Placed.TheVariants.{Went, Refused}
 use Rattle.heapops.specs.declared.Counts.{Counts}
 use Rattle.heapops.specs.Turns.{Mem}
 use Rattle.finish.specs.Parts.{Tables}
@@ -29,10 +27,12 @@ use Rattle.host.specs.declared.Changed.TheVariants.{Done as Changed-as-Done, Ref
 use Rattle.host.specs.Calls.{Called, answer_of_changed, counts_of_changed}
 use Rattle.host.specs.Lent.{Lent, lent_stored, with_stored, mem_stored}
 use Rattle.host.specs.Performs.{comes_went, called_no, called_full, called_done}
+use Rattle.value.specs.declared.Space.{Space}
+use Rattle.heap.specs.declared.Sizes.{Sizes}
 
-abbrev pub settled : Counts → Placed → Changed
-settled c (Went z k) = Changed-as-Done (with_stored z k c)
-settled c (Refused q) = Changed-as-Refused (St.question (space_of q))
+abbrev pub settled : Counts → Result (Sizes × ℕ) Space → Changed
+settled c (Ok (z, k)) = Changed-as-Done (with_stored z k c)
+settled c (Err q) = Changed-as-Refused (St.question (space_of q))
 
 module _ {c : Counts} {g : Tables} {m : Mem} (e : Lent c g m) (name : List ℕ) where
   -- Set global
@@ -57,18 +57,18 @@ module _ {c : Counts} {g : Tables} {m : Mem} (e : Lent c g m) (name : List ℕ) 
         abbrev rest : St.State
         rest = on_stacks c.depths m.stacks (on_output c.output m.output (ground_of c g))
 
-        put : (r : Placed) {w t : List ℕ} → length t ≡ length m.text → Puts (A.put_global name v) c.sizes m.heap c.text m.text r w t
+        put : (r : Result (Sizes × ℕ) Space) {w t : List ℕ} → length t ≡ length m.text → Puts (A.put_global name v) c.sizes m.heap c.text m.text r w t
             → Called (H.set_global name v) c g m (answer_of_changed (settled c r)) (counts_of_changed c (settled c r)) g (mem_stored w t m)
-        put (Refused q) {w} l f =
+        put (Err q) {w} l f =
             called_full e (space_of q) none_asked (f.goes rest next) refl
             (ap (λ (x : List ℕ). mem_stored w x m) f.ready.1 ∙ ap (λ (x : List ℕ). mem_stored x m.text m) f.ready.0)
-        put (Went z k) {w} {t} l f =
+        put (Ok (z, k)) {w} {t} l f =
             let goes : out (H.makes (H.set_global name v)) (state_in c g m) ≡ went (state_in (with_stored z k c) g (mem_stored w t m)) = f.goes rest next ∙ out_next _ in
             let p = comes_went (H.set_global name v) (state_in c g m) none_asked _ goes in
             called_done e refl (ap (λ (x : H.Called). x.answer) p.0, ap (λ (x : H.Called). x.after) p.0 ∙ p.1) (lent_stored t e f.ready.0 f.ready.1 l) (λ s. s) (λ z. z)
 
         -- the name is given in a buffer, of which it is all
-        pub set_put : {r : Placed} {w t : List ℕ} {x : Changed} → Puts (A.put_global (take (length name) name) v) c.sizes m.heap c.text m.text r w t → x ≡ settled c r
+        pub set_put : {r : Result (Sizes × ℕ) Space} {w t : List ℕ} {x : Changed} → Puts (A.put_global (take (length name) name) v) c.sizes m.heap c.text m.text r w t → x ≡ settled c r
             → length t ≡ length m.text → Called (H.set_global name v) c g m (answer_of_changed x) (counts_of_changed c x) g (mem_stored w t m)
         set_put {r} {w} {t} f k l =
             subst (λ (x : Changed). Called (H.set_global name v) c g m (answer_of_changed x) (counts_of_changed c x) g (mem_stored w t m)) (sym k)

@@ -10,20 +10,20 @@ ghost use Rattle.finish.specs.Parts.{tables};
 ghost use Rattle.host.specs.Calls.{Called, answer_of_changed, counts_of_changed, answer_of_read};
 ghost use Rattle.globals.specs.Globals.{settled};
 
+use heap::Sizes;
 use heapops::Counts;
 use host::questions::{handle_fine, is_ascii, lent};
 use host::{Changed, GlobalRead};
-use objects::Placed;
 use texts::Source;
-use value::Value;
+use value::{Space, Value};
 
 // What came of the store to a global.
-fn settle(c: Counts, r: Placed) -> Changed
+fn settle(c: Counts, r: Result<(Sizes, usize), Space>) -> Changed
     ensures { result ≡ settled c r }
 {
     match r {
-        Placed::Refused(q) => Changed::Refused(run::question(q)),
-        Placed::Went(z, m) => {
+        Err(q) => Changed::Refused(run::question(q)),
+        Ok((z, m)) => {
             let mut e = c;
             e.sizes = z;
             e.text = m;

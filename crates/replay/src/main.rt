@@ -11,11 +11,11 @@ use image::{CODE_BYTES, IMAGES};
 
 const STDOUT: i32 = 1;
 
-use run::{Ending, Ran};
+use run::Ran;
 use stacks::STACK_WORDS;
 use std::num::{wrapping_add_u64, wrapping_add_usize};
 use texts::{OUTPUT_LIMIT, TEXT_LIMIT};
-use value::JsVmError;
+use value::{JsVmError, Stop, Value};
 
 mod bytes;
 mod held;
@@ -97,15 +97,15 @@ fn byte_of(e: JsVmError) -> u64 {
     }
 }
 
-fn unknown_byte(e: Ending) -> u64 {
+fn unknown_byte(e: Result<Value, Stop>) -> u64 {
     match e {
-        Ending::Failed(f) => byte_of(f),
+        Err(Stop::Failed(f)) => byte_of(f),
         _ => 256,
     }
 }
 
 // The number, then the value of 0 and of 17 and the byte of 13.
-fn ended(code: &[u8], text: &[u8], e: Ending, buf: &[u8], start: Cursor) -> Cursor {
+fn ended(code: &[u8], text: &[u8], e: Result<Value, Stop>, buf: &[u8], start: Cursor) -> Cursor {
     let number = get(buf, start.place);
     let c = held::on(start, 1, run::end_number(e) == number, END);
     if number == 0 || number == 17 {

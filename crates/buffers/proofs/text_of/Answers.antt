@@ -7,11 +7,11 @@ use Rattle.machine.specs.Act.{plain}
 use Rattle.value.specs.Words.{value_of}
 use Rattle.buffers.proofs.text_of.Goals as goal
 
-pub returns-in-Bytes-clause-called : goal.returns-in-Bytes-clause-called
-returns-in-Bytes-clause-called c = (text_bytes (lent_if {c = c.args.c} {g = tables c.args.code.now c.args.places.now c.args.rows.now c.args.starts.now} {m = mem c.args.stacks.now c.args.heap.now c.args.text.now c.args.output.now} c.lent.ensures c.if-lent.true) (plain (value_of c.args.v)) refl (sym c.handle_fine.ensures ∙ c.if-handle_fine.true) c.write_text.ensures _ c.in-Bytes.is).0
+pub returns-in-Some-clause-called : goal.returns-in-Some-clause-called
+returns-in-Some-clause-called c = (text_bytes (lent_if {c = c.args.c} {g = tables c.args.code.now c.args.places.now c.args.rows.now c.args.starts.now} {m = mem c.args.stacks.now c.args.heap.now c.args.text.now c.args.output.now} c.lent.ensures c.if-lent.true) (plain (value_of c.args.v)) refl (sym c.handle_fine.ensures ∙ c.if-handle_fine.true) c.write_text.ensures _ c.in-Some.is).0
 
-pub returns-in-Bytes-clause-buffered : goal.returns-in-Bytes-clause-buffered
-returns-in-Bytes-clause-buffered c = (text_bytes (lent_if {c = c.args.c} {g = tables c.args.code.now c.args.places.now c.args.rows.now c.args.starts.now} {m = mem c.args.stacks.now c.args.heap.now c.args.text.now c.args.output.now} c.lent.ensures c.if-lent.true) (plain (value_of c.args.v)) refl (sym c.handle_fine.ensures ∙ c.if-handle_fine.true) c.write_text.ensures _ c.in-Bytes.is).1
+pub returns-in-Some-clause-buffered : goal.returns-in-Some-clause-buffered
+returns-in-Some-clause-buffered c = (text_bytes (lent_if {c = c.args.c} {g = tables c.args.code.now c.args.places.now c.args.rows.now c.args.starts.now} {m = mem c.args.stacks.now c.args.heap.now c.args.text.now c.args.output.now} c.lent.ensures c.if-lent.true) (plain (value_of c.args.v)) refl (sym c.handle_fine.ensures ∙ c.if-handle_fine.true) c.write_text.ensures _ c.in-Some.is).1
 
-pub returns-in-TooShort-clause-called : goal.returns-in-TooShort-clause-called
-returns-in-TooShort-clause-called c = (text_31 (lent_if {c = c.args.c} {g = tables c.args.code.now c.args.places.now c.args.rows.now c.args.starts.now} {m = mem c.args.stacks.now c.args.heap.now c.args.text.now c.args.output.now} c.lent.ensures c.if-lent.true) (plain (value_of c.args.v)) refl (sym c.handle_fine.ensures ∙ c.if-handle_fine.true) c.write_text.ensures c.in-TooShort.is).0
+pub returns-in-None-clause-called : goal.returns-in-None-clause-called
+returns-in-None-clause-called c = (text_31 (lent_if {c = c.args.c} {g = tables c.args.code.now c.args.places.now c.args.rows.now c.args.starts.now} {m = mem c.args.stacks.now c.args.heap.now c.args.text.now c.args.output.now} c.lent.ensures c.if-lent.true) (plain (value_of c.args.v)) refl (sym c.handle_fine.ensures ∙ c.if-handle_fine.true) c.write_text.ensures c.in-None.is).0

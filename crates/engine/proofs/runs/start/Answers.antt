@@ -7,13 +7,13 @@ pub push_frame-requires : goal.push_frame-requires
 push_frame-requires c = whole_ready (whole_lent c.requires.0)
 
 pub run_loop-requires : goal.run_loop-requires
-run_loop-requires c = start_whole c.args.image c.requires.0 c.requires.1 c.push_frame.ensures c.in-Went.is c.with_depths-begun.ensures
+run_loop-requires c = start_whole c.args.image c.requires.0 c.requires.1 c.push_frame.ensures c.in-Ok.is c.with_depths-begun.ensures
 
-pub returns-in-Refused : goal.returns-in-Refused
-returns-in-Refused c = start_full c.args.image c.requires.0 c.requires.1 c.push_frame.ensures c.in-Refused.is c.question.ensures
+pub returns-in-Err-Refused : goal.returns-in-Err-Refused
+returns-in-Err-Refused c = start_full c.args.image c.requires.0 c.requires.1 c.push_frame.ensures c.in-Err-Refused.is c.question.ensures
 
-pub returns-in-Failed : goal.returns-in-Failed
-returns-in-Failed c = start_failed c.args.image c.requires.0 c.requires.1 c.push_frame.ensures c.in-Failed.is c.error_number.ensures
+pub returns-in-Err-Failed : goal.returns-in-Err-Failed
+returns-in-Err-Failed c = start_failed c.args.image c.requires.0 c.requires.1 c.push_frame.ensures c.in-Err-Failed.is c.error_number.ensures
 
-pub returns-in-Went : goal.returns-in-Went
-returns-in-Went c = start_ran c.args.image c.requires.0 c.requires.1 c.push_frame.ensures c.in-Went.is c.run_loop.result c.with_depths-begun.ensures c.run_loop.ensures.ran c.run_loop.ensures.leaves
+pub returns-in-Ok : goal.returns-in-Ok
+returns-in-Ok c = start_ran c.args.image c.requires.0 c.requires.1 c.push_frame.ensures c.in-Ok.is c.run_loop.result c.with_depths-begun.ensures c.run_loop.ensures.ran c.run_loop.ensures.leaves
