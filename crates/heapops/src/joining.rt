@@ -9,8 +9,7 @@ ghost use Rattle.heapops.specs.Turns.{Turns, mem, Loaded};
 ghost use Rattle.heapops.specs.Makes.{PushesText};
 
 use crate::{Counts, Turned, failed, refused, settle_push};
-use outcome::with_operands;
-use stacks::{Depths, minus};
+use stacks::Depths;
 use texts::spell;
 use value::{JsVmError, Space, Value};
 
@@ -23,11 +22,18 @@ pub(crate) fn push_text(c: Counts, d: Depths, stacks: &mut [u64], k: Option<usiz
         return refused(c, Space::Text);
     };
     let n = c.text;
-    let r = stacks::push(d, stacks, Value::MadeText(n as u64, minus(m, n) as u64));
-    let mut e = c;
-    e.depths = d;
-    e.text = m;
-    settle_push(e, r)
+    let r = d.push(
+        stacks,
+        Value::MadeText(n as u64, m.saturating_sub(n) as u64),
+    );
+    settle_push(
+        Counts {
+            depths: d,
+            text: m,
+            ..c
+        },
+        r,
+    )
 }
 
 // The rest of Add where an operand is a text.
@@ -48,15 +54,14 @@ pub fn join(
     push_text(c, c.depths, stacks, k)
 }
 
-pub fn type_of(c: Counts, code: &[u8], stacks: &mut [u64], text: &mut [u8]) -> Turned
+pub fn type_of(c: Counts, stacks: &mut [u64], text: &mut [u8]) -> Turned
     requires ready { Ready c.depths stacks.old }
-    requires code_in_bounds { c.code ≤ length code.now }
     requires text_le_text_limit { (c.text ≤ text_limit) × (length text.old ≡ text_limit) }
     ensures { (h o : List ℕ) → Turns Any Typeof c (mem stacks.old h text.old o) result (mem stacks.new h text.new o) }
 {
-    let Some((v, d)) = stacks::pop(c.depths, stacks) else {
-        return failed(c, with_operands(c.depths, 0), JsVmError::StackUnderflow);
+    let Some((v, d)) = c.depths.pop(stacks) else {
+        return failed(c, c.depths.with_operands(0), JsVmError::StackUnderflow);
     };
-    let k = spell::keep_typeof(code, c.code, text, c.text, v);
+    let k = spell::keep_typeof(text, c.text, v);
     push_text(c, d, stacks, k)
 }

@@ -12,7 +12,7 @@ use crate::{Counts, Turned, failed, refused, went};
 use fetch::{Running, fetch_word, past_end};
 use heap::Sizes;
 use number::format::LONGEST_TEXT;
-use outcome::{pop_two, with_operands};
+use outcome::pop_two;
 use readops::constants::name;
 use stacks::Depths;
 use texts::spell;
@@ -23,14 +23,13 @@ pub(crate) fn settle_placed(c: Counts, d: Depths, r: Result<(Sizes, usize), Spac
     ensures { result ≡ placed_in c d r }
 {
     match r {
+        Ok((sizes, text)) => went(Counts {
+            depths: d,
+            sizes,
+            text,
+            ..c
+        }),
         Err(q) => refused(c, q),
-        Ok((y, m)) => {
-            let mut e = c;
-            e.depths = d;
-            e.sizes = y;
-            e.text = m;
-            went(e)
-        }
     }
 }
 
@@ -53,8 +52,8 @@ pub fn store_global(
     let Some((i, d)) = fetch_word(x, c.depths, code, c.code) else {
         return failed(c, past_end(x, c.depths), JsVmError::IpOutOfBounds);
     };
-    let Some((v, e)) = stacks::pop(d, stacks) else {
-        return failed(c, with_operands(d, 0), JsVmError::StackUnderflow);
+    let Some((v, e)) = d.pop(stacks) else {
+        return failed(c, d.with_operands(0), JsVmError::StackUnderflow);
     };
     let mut buffer = [0; LONGEST_TEXT];
     let key = name(x, code, places, i, &mut buffer);
@@ -82,7 +81,7 @@ pub fn store_property(
         return failed(c, past_end(x, c.depths), JsVmError::IpOutOfBounds);
     };
     let Some((target, v, e)) = pop_two(d, stacks) else {
-        return failed(c, with_operands(d, 0), JsVmError::StackUnderflow);
+        return failed(c, d.with_operands(0), JsVmError::StackUnderflow);
     };
     let mut buffer = [0; LONGEST_TEXT];
     let key = name(x, code, places, i, &mut buffer);
@@ -105,11 +104,11 @@ pub fn store_index(
     requires text_le_text_limit { (c.text ≤ text_limit) × (length text.old ≡ text_limit) }
     ensures { (o : List ℕ) → Turns (Loaded c.code code.now) StoreIndex c (mem stacks.now heap.old text.old o) result (mem stacks.now heap.new text.new o) }
 {
-    let Some((v, d)) = stacks::pop(c.depths, stacks) else {
-        return failed(c, with_operands(c.depths, 0), JsVmError::StackUnderflow);
+    let Some((v, d)) = c.depths.pop(stacks) else {
+        return failed(c, c.depths.with_operands(0), JsVmError::StackUnderflow);
     };
     let Some((target, i, e)) = pop_two(d, stacks) else {
-        return failed(c, with_operands(d, 0), JsVmError::StackUnderflow);
+        return failed(c, d.with_operands(0), JsVmError::StackUnderflow);
     };
     let mut buffer = [0; LONGEST_TEXT];
     let key = spell::to_js_string(i, &mut buffer);
