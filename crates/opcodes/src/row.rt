@@ -6,6 +6,7 @@ ghost use Rattle.opcodes.specs.Rows.{row_by};
 
 use crate::trial::attempt_of;
 use heap::HEAP_WORDS;
+use std::fmt;
 use texts::{OUTPUT_LIMIT, TEXT_LIMIT};
 
 #[derive(Clone, Copy)]
@@ -13,6 +14,12 @@ pub struct Row {
     pub bytes: u64,
     pub taken: u64,
     pub pushed: u64,
+}
+
+impl fmt::Display for Row {
+    fn fmt<W: fmt::Write>(&self, f: &mut fmt::Formatter<W>) -> fmt::Result {
+        write!(f, "{} {} {}", self.bytes, self.taken, self.pushed)
+    }
 }
 
 // The least bytes with which it does not give 14.

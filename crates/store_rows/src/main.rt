@@ -2,35 +2,21 @@
 #![tactic(auto)]
 
 use heap::HEAP_WORDS;
-
-const STDOUT: i32 = 1;
-
 use stacks::STACK_WORDS;
+use std::io;
 use texts::TEXT_LIMIT;
 
 mod object_rows;
 mod stack_rows;
 
-fn report(name: &[u8], rows: u64, differ: u64) {
-    io::write_all(STDOUT, name);
-    io::print_decimal(STDOUT, rows);
-    io::write_all(STDOUT, b" compared, ");
-    io::print_decimal(STDOUT, differ);
-    io::write_all(STDOUT, b" differ\n");
-}
-
-fn main() {
+fn main(rt: HostRuntime) -> io::Result<()> {
     let mut stacks = [0u64; STACK_WORDS];
     let mut heap = [0u64; HEAP_WORDS];
     let mut text = [0u8; TEXT_LIMIT];
-    report(
-        b"stacks: ",
-        stack_rows::ROWS,
-        stack_rows::differing(&mut stacks),
-    );
-    report(
-        b"arrays: ",
-        object_rows::ROWS,
-        object_rows::differing(&mut heap, &mut text, &mut stacks),
-    );
+    let rows = stack_rows::ROWS;
+    let differ = stack_rows::differing(&mut stacks);
+    println!(rt; "stacks: {rows} compared, {differ} differ")?;
+    let rows = object_rows::ROWS;
+    let differ = object_rows::differing(&mut heap, &mut text, &mut stacks);
+    println!(rt; "arrays: {rows} compared, {differ} differ")
 }
