@@ -12,12 +12,12 @@ pub struct Listed {
     pub next: usize,
 }
 
-pub fn wide(b: u8) -> u64 {
-    b as u64
-}
-
 pub fn get(buf: &[u8], i: usize) -> u64 {
-    if i < buf.len() { wide(buf[i]) } else { 256 }
+    if i < buf.len() {
+        u64::from(buf[i])
+    } else {
+        256
+    }
 }
 
 pub fn word(buf: &[u8], i: usize) -> u64 {
@@ -28,7 +28,7 @@ pub fn triple(buf: &[u8], i: usize) -> u64 {
     (get(buf, i) << 16) | word(buf, wrapping_add_usize(i, 1))
 }
 
-pub fn quad(buf: &[u8], i: usize) -> u64 {
+fn quad(buf: &[u8], i: usize) -> u64 {
     (word(buf, i) << 16) | word(buf, wrapping_add_usize(i, 2))
 }
 
@@ -77,12 +77,10 @@ pub fn listing(buf: &[u8], i: usize) -> Listed {
 
 // n bytes from place i of one slice are those from place j of another.
 pub fn same(a: &[u8], i: usize, b: &[u8], j: usize, n: usize) -> bool {
-    let mut k: usize = 0;
-    while k < n {
+    for k in 0..n {
         if get(a, wrapping_add_usize(i, k)) != get(b, wrapping_add_usize(j, k)) {
             return false;
         }
-        k += 1;
     }
     true
 }
@@ -106,7 +104,7 @@ pub fn agrees(code: &[u8], text: &[u8], buf: &[u8], v: Value, e: Listed) -> bool
     match v {
         Value::Undefined => e.kind == 0,
         Value::Null => e.kind == 1,
-        Value::Boolean(b) => same_bits(2, if b { 1 } else { 0 }, e),
+        Value::Boolean(b) => same_bits(2, u64::from(b), e),
         Value::Number(n) => same_bits(3, n, e),
         Value::CodeText(at, size) => same_text(code, at, size, buf, e),
         Value::MadeText(at, size) => same_text(text, at, size, buf, e),

@@ -101,11 +101,9 @@ fn values(
 ) -> Cursor {
     let mut c = start;
     let mut k = first;
-    let mut i: u64 = 0;
-    while i < n {
+    for _ in 0..n {
         c = one_value(code, text, buf, c, value_at(words, k), what);
         k = wrapping_add_usize(k, step);
-        i += 1;
     }
     c
 }
@@ -113,10 +111,8 @@ fn values(
 // The place of the newest of n rows, and how far it is to the next older one.
 fn newest(base: usize, width: usize, n: usize) -> usize {
     let mut k = base;
-    let mut i: usize = 1;
-    while i < n {
+    for _ in 1..n {
         k = wrapping_add_usize(k, width);
-        i += 1;
     }
     k
 }
@@ -193,12 +189,10 @@ fn frames(
     let mut c = count(buf, start, n, FRAMES);
     let mut k = newest(FRAMES_AT, 5, n);
     let mut p = ip as u64;
-    let mut i: usize = 0;
-    while i < n {
+    for _ in 0..n {
         c = frame(code, text, stacks, k, p, buf, c);
         k = wrapping_sub_usize(k, 5);
         p = at(stacks, wrapping_add_usize(k, 2));
-        i += 1;
     }
     c
 }
@@ -213,11 +207,9 @@ fn handler_agrees(stacks: &[u64], k: usize, buf: &[u8], i: usize) -> bool {
 fn handlers(stacks: &[u64], n: usize, buf: &[u8], start: Cursor) -> Cursor {
     let mut c = count(buf, start, n, HANDLERS);
     let mut k = newest(HANDLERS_AT, 3, n);
-    let mut i: usize = 0;
-    while i < n {
+    for _ in 0..n {
         c = on(c, 6, handler_agrees(stacks, k, buf, c.place), HANDLER);
         k = wrapping_sub_usize(k, 3);
-        i += 1;
     }
     c
 }
@@ -231,11 +223,9 @@ fn function_agrees(heap: &[u64], k: usize, buf: &[u8], i: usize) -> bool {
 fn functions(heap: &[u64], n: usize, buf: &[u8], start: Cursor) -> Cursor {
     let mut c = count(buf, start, n, FUNCTIONS);
     let mut k: usize = 0;
-    let mut i: usize = 0;
-    while i < n {
+    for _ in 0..n {
         c = on(c, 2, function_agrees(heap, k, buf, c.place), FUNCTION);
         k = wrapping_add_usize(k, 2);
-        i += 1;
     }
     c
 }
@@ -288,13 +278,11 @@ fn property_row(
     size: usize,
 ) -> usize {
     let mut k = PROPERTIES_AT;
-    let mut j: usize = 0;
-    while j < n {
+    for _ in 0..n {
         if keyed(text, heap, k, owner, buf, i, size) {
             return k;
         }
         k = wrapping_add_usize(k, 6);
-        j += 1;
     }
     0
 }
@@ -308,13 +296,11 @@ fn global_named(text: &[u8], heap: &[u64], k: usize, buf: &[u8], i: usize, size:
 // The place of the row of a global among n, or 0.
 fn global_row(text: &[u8], heap: &[u64], n: usize, buf: &[u8], i: usize, size: usize) -> usize {
     let mut k = GLOBALS_AT;
-    let mut j: usize = 0;
-    while j < n {
+    for _ in 0..n {
         if global_named(text, heap, k, buf, i, size) {
             return k;
         }
         k = wrapping_add_usize(k, 6);
-        j += 1;
     }
     0
 }
@@ -381,10 +367,8 @@ fn properties(
     start: Cursor,
 ) -> Cursor {
     let mut c = start;
-    let mut i: u64 = 0;
-    while i < some {
+    for _ in 0..some {
         c = property(code, text, heap, n, owner, buf, c);
-        i += 1;
     }
     c
 }
@@ -430,10 +414,8 @@ fn objects(
         cursor: count(buf, start, n, OBJECTS),
         properties: 0,
     };
-    let mut i: usize = 0;
-    while i < n {
+    for i in 0..n {
         r = object(code, text, heap, m, i, buf, r);
-        i += 1;
     }
     let c = r.cursor;
     on(c, 0, r.properties == m as u64, PROPERTIES)
@@ -441,10 +423,8 @@ fn objects(
 
 fn globals(code: &[u8], text: &[u8], heap: &[u64], n: usize, buf: &[u8], start: Cursor) -> Cursor {
     let mut c = count(buf, start, n, GLOBALS);
-    let mut i: usize = 0;
-    while i < n {
+    for _ in 0..n {
         c = global(code, text, heap, n, buf, c);
-        i += 1;
     }
     c
 }

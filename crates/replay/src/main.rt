@@ -2,18 +2,16 @@
 //! tests/replay/README.md has the list's format and says how it is made.
 #![tactic(auto)]
 
-use bytes::{get, quad, triple, wide, word};
+use bytes::{get, triple, word};
 use heap::HEAP_WORDS;
 use heapops::Counts;
 use held::Cursor;
 use host::Refusal;
 use image::{CODE_BYTES, IMAGES};
-
-const STDOUT: i32 = 1;
-
 use run::Ran;
 use stacks::STACK_WORDS;
-use std::num::{wrapping_add_u64, wrapping_add_usize};
+use std::io::{self, Read};
+use std::num::wrapping_add_usize;
 use texts::{OUTPUT_LIMIT, TEXT_LIMIT};
 use value::{JsVmError, Stop, Value};
 
@@ -41,6 +39,26 @@ const CLEAR: u64 = 26;
 // How many differences are told.
 const TOLD: u64 = 20;
 
+// "CWR1", with which a list begins.
+const MAGIC: u32 = 0x43575231;
+
+// The most bytes of a program.
+const PROGRAM_BYTES: usize = 65536;
+
+// The stores that the engine is lent, and where its output is drained to.
+#[derive(Drop)]
+struct Stores {
+    code: [u8; CODE_BYTES],
+    places: [u16; CODE_BYTES],
+    rows: [u16; CODE_BYTES],
+    starts: [u16; IMAGES],
+    stacks: [u64; STACK_WORDS],
+    heap: [u64; HEAP_WORDS],
+    text: [u8; TEXT_LIMIT],
+    output: [u8; OUTPUT_LIMIT],
+    drained: [u8; OUTPUT_LIMIT],
+}
+
 // A program as far as it was replayed: the counts that the engine answered last, and where the list was read to.
 #[derive(Clone, Copy)]
 struct Progress {
@@ -51,7 +69,7 @@ struct Progress {
 }
 
 // The list as far as it was read.
-#[derive(Clone, Copy)]
+#[derive(Default, Drop)]
 struct Tally {
     programs: u64,
     runs: u64,
@@ -59,40 +77,40 @@ struct Tally {
     cut: bool,
 }
 
-fn say(differs: u64) -> bool {
+fn name(differs: u64) -> &'static str {
     match differs {
-        LOAD => io::write_all(STDOUT, b"the answer of a load"),
-        END => io::write_all(STDOUT, b"the number of a run's end"),
-        PAYLOAD => io::write_all(STDOUT, b"the value or byte of a run's end"),
-        STEPS => io::write_all(STDOUT, b"the steps of a run"),
-        held::OPERANDS => io::write_all(STDOUT, b"the count of operands"),
-        held::OPERAND => io::write_all(STDOUT, b"an operand"),
-        held::FRAMES => io::write_all(STDOUT, b"the count of frames"),
-        held::FRAME => io::write_all(STDOUT, b"a frame"),
-        held::SLOT => io::write_all(STDOUT, b"a slot"),
-        held::HANDLERS => io::write_all(STDOUT, b"the count of handlers"),
-        held::HANDLER => io::write_all(STDOUT, b"a handler"),
-        held::FUNCTIONS => io::write_all(STDOUT, b"the count of functions"),
-        held::FUNCTION => io::write_all(STDOUT, b"a function"),
-        held::OBJECTS => io::write_all(STDOUT, b"the count of objects"),
-        held::OBJECT => io::write_all(STDOUT, b"the kind of an object"),
-        held::PROPERTIES => io::write_all(STDOUT, b"the count of properties"),
-        held::PROPERTY => io::write_all(STDOUT, b"a property"),
-        held::GLOBALS => io::write_all(STDOUT, b"the count of globals"),
-        held::GLOBAL => io::write_all(STDOUT, b"a global"),
-        held::SLOTS => io::write_all(STDOUT, b"the count of slots"),
-        held::TEXT => io::write_all(STDOUT, b"the count of text bytes"),
-        OUTPUT => io::write_all(STDOUT, b"the output"),
-        RUN => io::write_all(STDOUT, b"whether a run is refused"),
-        DRAIN => io::write_all(STDOUT, b"what is drained"),
-        CLEAR => io::write_all(STDOUT, b"the clear"),
-        _ => io::write_all(STDOUT, b"the end of the program in the list"),
+        LOAD => "the answer of a load",
+        END => "the number of a run's end",
+        PAYLOAD => "the value or byte of a run's end",
+        STEPS => "the steps of a run",
+        held::OPERANDS => "the count of operands",
+        held::OPERAND => "an operand",
+        held::FRAMES => "the count of frames",
+        held::FRAME => "a frame",
+        held::SLOT => "a slot",
+        held::HANDLERS => "the count of handlers",
+        held::HANDLER => "a handler",
+        held::FUNCTIONS => "the count of functions",
+        held::FUNCTION => "a function",
+        held::OBJECTS => "the count of objects",
+        held::OBJECT => "the kind of an object",
+        held::PROPERTIES => "the count of properties",
+        held::PROPERTY => "a property",
+        held::GLOBALS => "the count of globals",
+        held::GLOBAL => "a global",
+        held::SLOTS => "the count of slots",
+        held::TEXT => "the count of text bytes",
+        OUTPUT => "the output",
+        RUN => "whether a run is refused",
+        DRAIN => "what is drained",
+        CLEAR => "the clear",
+        _ => "the end of the program in the list",
     }
 }
 
 fn byte_of(e: JsVmError) -> u64 {
     match e {
-        JsVmError::UnknownOpcode(b) => wide(b),
+        JsVmError::UnknownOpcode(b) => u64::from(b),
         _ => 256,
     }
 }
@@ -132,11 +150,7 @@ fn output_agrees(
 
 // What a run answers and leaves.
 fn compared(
-    code: &[u8],
-    text: &[u8],
-    stacks: &[u64],
-    heap: &[u64],
-    out: &[u8],
+    s: &Stores,
     d: Result<(usize, Counts), Refusal>,
     r: Ran,
     buf: &[u8],
@@ -144,10 +158,10 @@ fn compared(
 ) -> Cursor {
     let e = r.end;
     let k = r.counts;
-    let a = ended(code, text, e, buf, start);
+    let a = ended(&s.code, &s.text, e, buf, start);
     let b = held::on(a, 3, r.steps as u64 == triple(buf, a.place), STEPS);
-    let c = held::stores(code, text, stacks, heap, k, buf, b);
-    let f = output_agrees(d, out, buf, c, OUTPUT);
+    let c = held::stores(&s.code, &s.text, &s.stacks, &s.heap, k, buf, b);
+    let f = output_agrees(d, &s.drained, buf, c, OUTPUT);
     held::counts(k, buf, f)
 }
 
@@ -178,18 +192,7 @@ fn not_loaded(p: Progress, buf: &[u8], to: usize, q: u64) -> Progress {
     )
 }
 
-fn load_call(
-    code: &mut [u8],
-    places: &mut [u16],
-    rows: &mut [u16],
-    starts: &mut [u16],
-    stacks: &[u64],
-    heap: &[u64],
-    text: &[u8],
-    output: &[u8],
-    buf: &[u8],
-    p: Progress,
-) -> Progress {
+fn load_call(s: &mut Stores, buf: &[u8], p: Progress) -> Progress {
     let c = p.cursor;
     let from = wrapping_add_usize(c.place, 3);
     let to = wrapping_add_usize(from, word(buf, wrapping_add_usize(c.place, 1)) as usize);
@@ -202,21 +205,21 @@ fn load_call(
     let which = get(buf, c.place);
     let k = p.counts;
     match engine::images::load(
-        code,
-        places,
-        rows,
-        starts,
-        stacks,
-        heap,
-        text,
-        output,
+        &mut s.code,
+        &mut s.places,
+        &mut s.rows,
+        &mut s.starts,
+        &s.stacks,
+        &s.heap,
+        &s.text,
+        &s.output,
         k,
         &buf[from..to],
     ) {
         Ok((i, counts)) => Progress {
             counts,
             cursor: held::to(c, to, which == 1 && i as u64 == p.images, LOAD),
-            images: wrapping_add_u64(p.images, 1),
+            images: p.images.saturating_add(1),
             runs: p.runs,
         },
         Err(e) => not_loaded(p, buf, to, u64::from(e)),
@@ -235,64 +238,67 @@ fn not_run(p: Progress, buf: &[u8], q: u64) -> Progress {
     )
 }
 
-fn run_call(
-    code: &[u8],
-    places: &[u16],
-    rows: &[u16],
-    starts: &[u16],
-    stacks: &mut [u64; STACK_WORDS],
-    heap: &mut [u64; HEAP_WORDS],
-    text: &mut [u8; TEXT_LIMIT],
-    output: &mut [u8; OUTPUT_LIMIT],
-    out: &mut [u8; OUTPUT_LIMIT],
-    buf: &[u8],
-    p: Progress,
-) -> Progress {
+fn run_call(s: &mut Stores, buf: &[u8], p: Progress) -> Progress {
     let c = p.cursor;
     let k = p.counts;
     let image = get(buf, wrapping_add_usize(c.place, 1)) as usize;
     match engine::runs::run(
-        code, places, rows, starts, stacks, heap, text, output, k, image,
+        &s.code,
+        &s.places,
+        &s.rows,
+        &s.starts,
+        &mut s.stacks,
+        &mut s.heap,
+        &mut s.text,
+        &mut s.output,
+        k,
+        image,
     ) {
         Err(e) => not_run(p, buf, u64::from(e)),
         Ok(r) => {
             let counts = r.counts;
             let d = buffers::drain(
-                code, places, rows, starts, stacks, heap, text, output, counts, out,
+                &s.code,
+                &s.places,
+                &s.rows,
+                &s.starts,
+                &s.stacks,
+                &s.heap,
+                &s.text,
+                &s.output,
+                counts,
+                &mut s.drained,
             );
             let start = held::on(c, 2, get(buf, c.place) == 2, RUN);
             Progress {
                 counts,
-                cursor: compared(code, text, stacks, heap, out, d, r, buf, start),
+                cursor: compared(s, d, r, buf, start),
                 images: p.images,
-                runs: wrapping_add_u64(p.runs, 1),
+                runs: p.runs.saturating_add(1),
             }
         }
     }
 }
 
-fn drain_call(
-    code: &[u8],
-    places: &[u16],
-    rows: &[u16],
-    starts: &[u16],
-    stacks: &[u64],
-    heap: &[u64],
-    text: &[u8],
-    output: &[u8],
-    out: &mut [u8],
-    buf: &[u8],
-    p: Progress,
-) -> Progress {
+fn drain_call(s: &mut Stores, buf: &[u8], p: Progress) -> Progress {
     let c = p.cursor;
     let k = p.counts;
     let start = held::on(c, 1, true, 0);
     match buffers::drain(
-        code, places, rows, starts, stacks, heap, text, output, k, out,
+        &s.code,
+        &s.places,
+        &s.rows,
+        &s.starts,
+        &s.stacks,
+        &s.heap,
+        &s.text,
+        &s.output,
+        k,
+        &mut s.drained,
     ) {
         Ok((n, counts)) => Progress {
             counts,
-            cursor: held::drained(out, n, buf, start, DRAIN),
+            cursor: held::drained(&s.drained, n, buf, start, DRAIN),
             images: p.images,
             runs: p.runs,
         },
@@ -301,35 +307,17 @@ fn drain_call(
 }
 
 // One call of the list.
-fn call(
-    code: &mut [u8; CODE_BYTES],
-    places: &mut [u16; CODE_BYTES],
-    rows: &mut [u16; CODE_BYTES],
-    starts: &mut [u16; IMAGES],
-    stacks: &mut [u64; STACK_WORDS],
-    heap: &mut [u64; HEAP_WORDS],
-    text: &mut [u8; TEXT_LIMIT],
-    output: &mut [u8; OUTPUT_LIMIT],
-    out: &mut [u8; OUTPUT_LIMIT],
-    buf: &[u8],
-    p: Progress,
-) -> Progress {
+fn call(s: &mut Stores, buf: &[u8], p: Progress) -> Progress {
     let c = p.cursor;
     let which = get(buf, c.place);
     if which == 1 || which == 8 {
-        return load_call(
-            code, places, rows, starts, stacks, heap, text, output, buf, p,
-        );
+        return load_call(s, buf, p);
     }
     if which == 2 || which == 7 {
-        return run_call(
-            code, places, rows, starts, stacks, heap, text, output, out, buf, p,
-        );
+        return run_call(s, buf, p);
     }
     if which == 3 {
-        return drain_call(
-            code, places, rows, starts, stacks, heap, text, output, out, buf, p,
-        );
+        return drain_call(s, buf, p);
     }
     failed(p, CUT)
 }
@@ -341,29 +329,13 @@ fn done(p: Progress, size: usize) -> bool {
 }
 
 // A program's calls, each of which has a byte or more.
-fn calls(
-    code: &mut [u8; CODE_BYTES],
-    places: &mut [u16; CODE_BYTES],
-    rows: &mut [u16; CODE_BYTES],
-    starts: &mut [u16; IMAGES],
-    stacks: &mut [u64; STACK_WORDS],
-    heap: &mut [u64; HEAP_WORDS],
-    text: &mut [u8; TEXT_LIMIT],
-    output: &mut [u8; OUTPUT_LIMIT],
-    out: &mut [u8; OUTPUT_LIMIT],
-    buf: &[u8],
-    start: Progress,
-) -> Progress {
+fn calls(s: &mut Stores, buf: &[u8], start: Progress) -> Progress {
     let mut p = start;
-    let mut left = buf.len();
-    while 0 < left {
+    for _ in 0..buf.len() {
         if done(p, buf.len()) {
             return p;
         }
-        p = call(
-            code, places, rows, starts, stacks, heap, text, output, out, buf, p,
-        );
-        left -= 1;
+        p = call(s, buf, p);
     }
     p
 }
@@ -384,26 +356,18 @@ fn outcome(p: Progress, size: usize) -> Found {
     }
 }
 
-fn replayed(
-    code: &mut [u8; CODE_BYTES],
-    places: &mut [u16; CODE_BYTES],
-    rows: &mut [u16; CODE_BYTES],
-    starts: &mut [u16; IMAGES],
-    stacks: &mut [u64; STACK_WORDS],
-    heap: &mut [u64; HEAP_WORDS],
-    text: &mut [u8; TEXT_LIMIT],
-    output: &mut [u8; OUTPUT_LIMIT],
-    out: &mut [u8; OUTPUT_LIMIT],
-    buf: &[u8],
-    size: usize,
-) -> Found {
-    if buf.len() < size {
-        return Found {
-            differs: CUT,
-            runs: 0,
-        };
-    }
-    let Ok(counts) = engine::clear(code, places, rows, starts, stacks, heap, text, output) else {
+// The calls of a program, on a cleared engine.
+fn replayed(s: &mut Stores, buf: &[u8]) -> Found {
+    let Ok(counts) = engine::clear(
+        &mut s.code,
+        &mut s.places,
+        &mut s.rows,
+        &mut s.starts,
+        &mut s.stacks,
+        &mut s.heap,
+        &mut s.text,
+        &mut s.output,
+    ) else {
         return Found {
             differs: CLEAR,
             runs: 0,
@@ -418,179 +382,97 @@ fn replayed(
         images: 0,
         runs: 0,
     };
-    let p = calls(
-        code,
-        places,
-        rows,
-        starts,
-        stacks,
-        heap,
-        text,
-        output,
-        out,
-        &buf[..size],
-        start,
-    );
-    outcome(p, size)
+    outcome(calls(s, buf, start), buf.len())
 }
 
-// One program more. The first differences are told.
-fn told(t: Tally, f: Found) -> Tally {
-    let programs = wrapping_add_u64(t.programs, 1);
-    let runs = wrapping_add_u64(t.runs, f.runs);
-    if f.differs == 0 {
-        return Tally {
-            programs,
-            runs,
-            differ: t.differ,
-            cut: t.cut,
-        };
+impl Tally {
+    // One program more. The first differences are told.
+    fn add(&mut self, rt: &impl Print, f: Found) -> io::Result<()> {
+        self.programs = self.programs.saturating_add(1);
+        self.runs = self.runs.saturating_add(f.runs);
+        if f.differs == 0 {
+            return Ok(());
+        }
+        if self.differ < TOLD {
+            println!(rt;
+                "program {}, run {}: {}",
+                self.programs,
+                f.runs,
+                name(f.differs)
+            )?;
+        }
+        self.differ = self.differ.saturating_add(1);
+        Ok(())
     }
-    if t.differ < TOLD {
-        io::write_all(STDOUT, b"program ");
-        io::print_decimal(STDOUT, programs);
-        io::write_all(STDOUT, b", run ");
-        io::print_decimal(STDOUT, f.runs);
-        io::write_all(STDOUT, b": ");
-        say(f.differs);
-        io::write_all(STDOUT, b"\n");
-    }
-    Tally {
-        programs,
-        runs,
-        differ: wrapping_add_u64(t.differ, 1),
-        cut: t.cut,
+
+    // `runs` is the list's count of them.
+    fn report(&self, rt: &impl Print, runs: u64) -> io::Result<()> {
+        println!(rt;
+            "{} programs, {} runs, {} differ",
+            self.programs, self.runs, self.differ
+        )?;
+        if self.cut {
+            println!(rt; "the list is cut")?;
+        }
+        if self.differ == 0 && self.runs != runs {
+            println!(rt; "the list has another count of runs")?;
+        }
+        Ok(())
     }
 }
 
-fn cut_off(t: Tally) -> Tally {
-    Tally {
-        programs: t.programs,
-        runs: t.runs,
-        differ: t.differ,
-        cut: true,
+// A number of the list's head or a program's size; 0 where the list has ended.
+fn number(list: &mut impl Read) -> u32 {
+    let mut bytes = [0u8; 4];
+    match list.read_exact(&mut bytes) {
+        Ok(()) => u32::from_be_bytes(bytes),
+        Err(_) => 0,
     }
 }
 
-// The next program of standard input: its bytes go to the start of the buffer.
-#[derive(Clone, Copy)]
-enum Next {
-    Bytes(usize),
-    Cut,
-}
-
-fn next_program(buf: &mut [u8]) -> Next {
-    let mut head = [0u8; 4];
-    io::read_full(0, &mut head);
-    let size = quad(&head, 0) as usize;
-    if buf.len() < size {
-        return Next::Cut;
-    }
-    let n = io::read_full(0, &mut buf[..size]);
-    if n != size {
-        return Next::Cut;
-    }
-    Next::Bytes(size)
-}
-
-fn program(
-    code: &mut [u8; CODE_BYTES],
-    places: &mut [u16; CODE_BYTES],
-    rows: &mut [u16; CODE_BYTES],
-    starts: &mut [u16; IMAGES],
-    stacks: &mut [u64; STACK_WORDS],
-    heap: &mut [u64; HEAP_WORDS],
-    text: &mut [u8; TEXT_LIMIT],
-    output: &mut [u8; OUTPUT_LIMIT],
-    out: &mut [u8; OUTPUT_LIMIT],
-    buf: &mut [u8; 65536],
-    t: Tally,
-) -> Tally {
-    let Next::Bytes(size) = next_program(buf) else {
-        return cut_off(t);
-    };
-    let f = replayed(
-        code, places, rows, starts, stacks, heap, text, output, out, buf, size,
-    );
-    told(t, f)
+// The next program, whose bytes go to the start of the buffer.
+fn next_program<'a>(list: &mut impl Read, buf: &'a mut [u8]) -> Option<&'a [u8]> {
+    let program = buf.get_mut(..number(list) as usize)?;
+    list.read_exact(program).ok()?;
+    Some(program)
 }
 
 fn programs(
-    code: &mut [u8; CODE_BYTES],
-    places: &mut [u16; CODE_BYTES],
-    rows: &mut [u16; CODE_BYTES],
-    starts: &mut [u16; IMAGES],
-    stacks: &mut [u64; STACK_WORDS],
-    heap: &mut [u64; HEAP_WORDS],
-    text: &mut [u8; TEXT_LIMIT],
-    output: &mut [u8; OUTPUT_LIMIT],
-    out: &mut [u8; OUTPUT_LIMIT],
-    buf: &mut [u8; 65536],
-    count: u64,
-) -> Tally {
-    let mut t = Tally {
-        programs: 0,
-        runs: 0,
-        differ: 0,
-        cut: false,
+    rt: &impl Print,
+    list: &mut impl Read,
+    s: &mut Stores,
+    count: u32,
+) -> io::Result<Tally> {
+    let mut buf = [0u8; PROGRAM_BYTES];
+    let mut tally = Tally::default();
+    for _ in 0..count {
+        let Some(program) = next_program(list, &mut buf) else {
+            tally.cut = true;
+            return Ok(tally);
+        };
+        tally.add(rt, replayed(s, program))?;
+    }
+    Ok(tally)
+}
+
+fn main(rt: HostRuntime) -> io::Result<()> {
+    let mut list = rt.reader();
+    if number(&mut list) != MAGIC {
+        return println!(rt; "this is no list");
+    }
+    let count = number(&mut list);
+    let runs = number(&mut list);
+    let mut stores = Stores {
+        code: [170; CODE_BYTES],
+        places: [43690; CODE_BYTES],
+        rows: [43690; CODE_BYTES],
+        starts: [43690; IMAGES],
+        stacks: [43690; STACK_WORDS],
+        heap: [43690; HEAP_WORDS],
+        text: [170; TEXT_LIMIT],
+        output: [170; OUTPUT_LIMIT],
+        drained: [0; OUTPUT_LIMIT],
     };
-    let mut i: u64 = 0;
-    while i < count {
-        if t.cut {
-            return t;
-        }
-        t = program(
-            code, places, rows, starts, stacks, heap, text, output, out, buf, t,
-        );
-        i += 1;
-    }
-    t
-}
-
-fn report(t: Tally, runs: u64) {
-    io::print_decimal(STDOUT, t.programs);
-    io::write_all(STDOUT, b" programs, ");
-    io::print_decimal(STDOUT, t.runs);
-    io::write_all(STDOUT, b" runs, ");
-    io::print_decimal(STDOUT, t.differ);
-    io::write_all(STDOUT, b" differ\n");
-    if t.cut {
-        io::write_all(STDOUT, b"the list is cut\n");
-    }
-    if t.differ == 0 && t.runs != runs {
-        io::write_all(STDOUT, b"the list has another count of runs\n");
-    }
-}
-
-fn main() {
-    let mut head = [0u8; 12];
-    io::read_full(0, &mut head);
-    if quad(&head, 0) != 0x43575231 {
-        io::write_all(STDOUT, b"this is no list\n");
-        return;
-    }
-    let mut code: [u8; CODE_BYTES] = [170; CODE_BYTES];
-    let mut places: [u16; CODE_BYTES] = [43690; CODE_BYTES];
-    let mut rows: [u16; CODE_BYTES] = [43690; CODE_BYTES];
-    let mut starts: [u16; IMAGES] = [43690; IMAGES];
-    let mut stacks: [u64; STACK_WORDS] = [43690; STACK_WORDS];
-    let mut heap: [u64; HEAP_WORDS] = [43690; HEAP_WORDS];
-    let mut text: [u8; TEXT_LIMIT] = [170; TEXT_LIMIT];
-    let mut output: [u8; OUTPUT_LIMIT] = [170; OUTPUT_LIMIT];
-    let mut out: [u8; OUTPUT_LIMIT] = [0; OUTPUT_LIMIT];
-    let mut buf: [u8; 65536] = [0; 65536];
-    let t = programs(
-        &mut code,
-        &mut places,
-        &mut rows,
-        &mut starts,
-        &mut stacks,
-        &mut heap,
-        &mut text,
-        &mut output,
-        &mut out,
-        &mut buf,
-        quad(&head, 4),
-    );
-    report(t, quad(&head, 8));
+    let tally = programs(&rt, &mut list, &mut stores, count)?;
+    tally.report(&rt, u64::from(runs))
 }
