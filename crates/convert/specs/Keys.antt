@@ -1,16 +1,14 @@
 -- The numeric key of an array. Assumes nothing.
-use Rattle.std.specs.Prelude.{ℕ, ◌+◌, ◌-◌, ◌*◌, ◌/◌, ◌^◌, ◌≤◌, ◌<◌, Bool, true, false, ◌&&◌, List, [], ◌∷◌, ◌≡◌, refl, leb, length, get_or, drop}
+use Rattle.std.specs.Prelude.{ℕ, ◌+◌, ◌-◌, ◌*◌, ◌/◌, ◌^◌, ◌≤◌, ◌<◌, Bool, true, false, ◌&&◌, List, [], ◌∷◌, ◌≡◌, refl, leb, length, get_or, drop, Option, Some, None}
 use Rattle.std.proofs.Common.{arith, add-one, sym, ap, ◌∙◌, drop_of_length-le, drop-cons, ne_eqb, eq-eqb, lt-ltb, le-ltb, leb-true}
-use Rattle.std.proofs.Math.Option.{Option, none, some}
+use Rattle.std.proofs.Math.Option.{Option as Maybe, none, some}
 use Rattle.std.specs.Prelude.{if◌then◌else◌}
 use Rattle.machine.specs.Number as N
 use Rattle.machine.specs.Convert.{worth, digits_key, array_key}
-use Rattle.convert.specs.declared.Key.{Key}
-use Rattle.convert.specs.declared.Key.TheVariants.{Index, Name}
 
-abbrev pub key_of : Key → Option ℕ
-key_of (Index i) = some i
-key_of Name = none
+abbrev pub key_of : Option ℕ → Maybe ℕ
+key_of (Some i) = some i
+key_of None = none
 
 pub key_none : (s : List ℕ) → length s ≡ 0 → none ≡ digits_key s
 key_none [] h = refl
@@ -78,10 +76,10 @@ pub array_none : (s : List ℕ) → length s ≡ 0 → none ≡ array_key s
 array_none [] h = refl
 array_none (b ∷ s) h = absurd (omega arith)
 
-pub array_plus : (s : List ℕ) (r : Option ℕ) → 0 < length s → get_or s 0 0 ≡ 43 → r ≡ digits_key (drop 1 s) → r ≡ array_key s
+pub array_plus : (s : List ℕ) (r : Maybe ℕ) → 0 < length s → get_or s 0 0 ≡ 43 → r ≡ digits_key (drop 1 s) → r ≡ array_key s
 array_plus [] r h e q = absurd (omega arith)
 array_plus (b ∷ s) r h e q = q ∙ sym (ap (λ (t : Bool). if t then digits_key s else digits_key (b ∷ s)) (eq-eqb b 43 e))
 
-pub array_plain : (s : List ℕ) (r : Option ℕ) → 0 < length s → (get_or s 0 0 ≡ 43 → ⊥) → r ≡ digits_key s → r ≡ array_key s
+pub array_plain : (s : List ℕ) (r : Maybe ℕ) → 0 < length s → (get_or s 0 0 ≡ 43 → ⊥) → r ≡ digits_key s → r ≡ array_key s
 array_plain [] r h e q = absurd (omega arith)
 array_plain (b ∷ s) r h e q = q ∙ sym (ap (λ (t : Bool). if t then digits_key s else digits_key (b ∷ s)) (ne_eqb b 43 e))

@@ -170,13 +170,6 @@ pub fn abstract_eq<'a>(
     loose_eq(code, n, text, m, v, u)
 }
 
-/// A key of an array: a number below 2^64, or a name.
-#[derive(Clone, Copy)]
-pub enum Key {
-    Index(u64),
-    Name,
-}
-
 const LARGEST: u64 = 0xffff_ffff_ffff_ffff;
 
 fn digit_of(b: u8) -> u64
@@ -186,11 +179,11 @@ fn digit_of(b: u8) -> u64
     (b - b'0') as u64
 }
 
-pub fn digits_key(s: &[u8]) -> Key
+pub fn digits_key(s: &[u8]) -> Option<u64>
     ensures { key_of result ≡ digits_key s.now }
 {
     if s.len() == 0 {
-        return Key::Name;
+        return None;
     }
     let mut worth: u64 = 0;
     let mut i: usize = 0;
@@ -199,22 +192,22 @@ pub fn digits_key(s: &[u8]) -> Key
         if parse::is_digit(b) {
             let d = digit_of(b);
             if (LARGEST - d) / 10 < worth {
-                return Key::Name;
+                return None;
             }
             worth = worth * 10 + d;
             i += 1;
         } else {
-            return Key::Name;
+            return None;
         }
     }
-    Key::Index(worth)
+    Some(worth)
 }
 
-pub fn array_key(s: &[u8]) -> Key
+pub fn array_key(s: &[u8]) -> Option<u64>
     ensures { key_of result ≡ array_key s.now }
 {
     if s.len() == 0 {
-        return Key::Name;
+        return None;
     }
     if s[0] == b'+' {
         return digits_key(&s[1..]);

@@ -8,7 +8,7 @@ ghost use Rattle.stacks.specs.View.{Ready};
 ghost use Rattle.fetch.specs.Running.{Runs};
 ghost use Rattle.dispatch.specs.Dispatch.{Dispatches, Steps, Held};
 
-use fetch::{Fetched, Running};
+use fetch::Running;
 use outcome::{Part, Stepped, left_to_do, went};
 use readops::constants;
 use stackops::{arithmetic, comparison, control, locals};
@@ -94,7 +94,7 @@ pub fn step<'a>(
     if d.frames == 0 {
         return control::halt(d, stacks);
     }
-    let Fetched::Got(op, e) = fetch::fetch(x, d, code, n) else {
+    let Some((op, e)) = fetch::fetch(x, d, code, n) else {
         return went(stacks::pop_frame(d, stacks));
     };
     execute(op, x, e, code, n, places, stacks, text, m)

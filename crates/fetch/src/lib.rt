@@ -19,12 +19,6 @@ pub struct Running {
     pub shape: FunctionTemplate,
 }
 
-#[derive(Clone, Copy)]
-pub enum Fetched {
-    Got(usize, Depths),
-    Missing,
-}
-
 pub fn find(rows: &[u16], starts: &[u16], images: usize, i: u64, t: u64) -> Running
     ensures known { Known rows.now starts.now images result }
     ensures place { (result.image ≡ i) × (result.template ≡ t) }
@@ -86,29 +80,29 @@ pub fn byte_at(code: &[u8], n: usize, at: usize, p: usize) -> usize
 }
 
 // `read_byte`
-pub fn fetch(x: Running, d: Depths, code: &[u8], n: usize) -> Fetched
+pub fn fetch(x: Running, d: Depths, code: &[u8], n: usize) -> Option<(usize, Depths)>
     requires { n ≤ length code.now }
     ensures { Fetches x n code.now d result }
 {
     let p = d.ip;
     if x.shape.size <= p {
-        return Fetched::Missing;
+        return None;
     }
-    Fetched::Got(byte_at(code, n, x.shape.at, p), with_ip(d, p + 1))
+    Some((byte_at(code, n, x.shape.at, p), with_ip(d, p + 1)))
 }
 
 // `read_u16`
-pub fn fetch_word(x: Running, d: Depths, code: &[u8], n: usize) -> Fetched
+pub fn fetch_word(x: Running, d: Depths, code: &[u8], n: usize) -> Option<(usize, Depths)>
     requires { n ≤ length code.now }
     ensures { FetchesWord x n code.now d result }
 {
-    let Fetched::Got(hi, e) = fetch(x, d, code, n) else {
-        return Fetched::Missing;
+    let Some((hi, e)) = fetch(x, d, code, n) else {
+        return None;
     };
-    let Fetched::Got(lo, f) = fetch(x, e, code, n) else {
-        return Fetched::Missing;
+    let Some((lo, f)) = fetch(x, e, code, n) else {
+        return None;
     };
-    Fetched::Got(hi * 256 + lo, f)
+    Some((hi * 256 + lo, f))
 }
 
 // The operand bytes that were there are read.

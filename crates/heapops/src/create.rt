@@ -9,9 +9,7 @@ ghost use Rattle.fetch.specs.Running.{Runs, Coded};
 ghost use Rattle.heapops.specs.Turns.{Turns, mem};
 
 use crate::{Counts, Turned, failed, refused, settle_push};
-use fetch::{Fetched, Running, fetch, past_end};
-use heap::Grown;
-use objects::Placed;
+use fetch::{Running, fetch, past_end};
 use stacks::{lesser, minus};
 use value::{JsVmError, Value};
 
@@ -29,8 +27,8 @@ pub fn register(
 {
     let n = c.sizes.functions;
     match heap::add_function(c.sizes, heap, image, template) {
-        Grown::Refused(q) => refused(c, q),
-        Grown::Went(y) => {
+        Err(q) => refused(c, q),
+        Ok(y) => {
             let r = stacks::push(c.depths, stacks, Value::Function(n as u64));
             let mut e = c;
             e.sizes = y;
@@ -46,8 +44,8 @@ pub fn create_object(c: Counts, stacks: &mut [u64], heap: &mut [u64]) -> Turned
 {
     let n = c.sizes.objects;
     match heap::add_object(c.sizes, heap) {
-        Grown::Refused(q) => refused(c, q),
-        Grown::Went(y) => {
+        Err(q) => refused(c, q),
+        Ok(y) => {
             let r = stacks::push(c.depths, stacks, Value::Object(n as u64));
             let mut e = c;
             e.sizes = y;
@@ -71,7 +69,7 @@ pub fn create_array(
     requires text_le_text_limit { (c.text ≤ text_limit) × (length text.old ≡ text_limit) }
     ensures { (o : List ℕ) → Turns (Coded x c.code code.now) CreateArray c (mem stacks.old heap.old text.old o) result (mem stacks.new heap.new text.new o) }
 {
-    let Fetched::Got(count, d) = fetch(x, c.depths, code, c.code) else {
+    let Some((count, d)) = fetch(x, c.depths, code, c.code) else {
         return failed(c, past_end(x, c.depths), JsVmError::IpOutOfBounds);
     };
     let id = c.sizes.objects;
@@ -79,8 +77,8 @@ pub fn create_array(
     let from = minus(stand, count);
     let given = lesser(count, stand);
     match arrays::add_array(c.sizes, heap, text, c.text, stacks, from, given, count) {
-        Placed::Refused(q) => refused(c, q),
-        Placed::Went(y, m) => {
+        Err(q) => refused(c, q),
+        Ok((y, m)) => {
             let f = stacks::truncate(d, count);
             let r = stacks::push(f, stacks, Value::Object(id as u64));
             let mut e = c;

@@ -10,7 +10,7 @@
 
 ghost use Rattle.std.specs.Prelude.{◌-◌, ◌<◌, ◌≤◌, length};
 
-use image::{CODE_BYTES, FoundConstant, FunctionTemplate, IMAGES, ImageCounts, Loaded};
+use image::{CODE_BYTES, FunctionTemplate, IMAGES, ImageCounts, Loaded};
 use reader::Constant;
 use std::num::wrapping_add_u64;
 
@@ -371,10 +371,10 @@ fn seen_as(c: Constant) -> Seen {
     }
 }
 
-fn found(c: FoundConstant) -> Seen {
+fn found(c: Option<Constant>) -> Seen {
     match c {
-        FoundConstant::Is(k) => seen_as(k),
-        FoundConstant::Missing => Seen {
+        Some(k) => seen_as(k),
+        None => Seen {
             kind: 6,
             a: 0,
             b: 0,

@@ -8,11 +8,11 @@ ghost use Rattle.quick.specs.Quickly.{Quickly, Operand};
 ghost use Rattle.quick.specs.Stays.{Stays, InFrame, within};
 ghost use Rattle.quick.specs.Senses.{Senses};
 
-use crate::{Here, Quick};
+use crate::Here;
 use fetch::Running;
 use number::JsNumber;
 use outcome::{with_ip, with_operands};
-use stacks::{Depths, HANDLER_LIMIT, HANDLERS_AT, Made};
+use stacks::{Depths, HANDLER_LIMIT, HANDLERS_AT};
 use value::Value;
 
 fn with_handlers(d: Depths, n: usize, h: usize, p: usize) -> Depths
@@ -25,39 +25,32 @@ fn with_handlers(d: Depths, n: usize, h: usize, p: usize) -> Depths
     e
 }
 
-pub fn jump(x: Running, d: Depths, i: usize, code: &[u8], n: usize) -> Quick
+pub fn jump(x: Running, d: Depths, i: usize, code: &[u8], n: usize) -> Option<Depths>
     requires { Operand x n code.now d i }
     ensures quickly { (w : List ℕ) → Ready d w → Runs x d w → Quickly (Coded x n code.now) Jump d w result w }
     ensures stays { (w : List ℕ) → Stays d w result w }
 {
-    Quick::Went(with_ip(d, i))
+    Some(with_ip(d, i))
 }
 
-// The truth of the newest operand, if it is a boolean or a number.
-#[derive(Clone, Copy)]
-pub enum Sense {
-    Is(bool),
-    Other,
-}
-
-fn truth_of(d: Depths, stacks: &[u64]) -> Sense
+fn truth_of(d: Depths, stacks: &[u64]) -> Option<bool>
     requires { Ready d stacks.now }
     ensures { Senses d stacks.now result }
 {
     let n = d.operands;
     if n == 0 {
-        return Sense::Other;
+        return None;
     }
     let v = value::read(stacks, 3 * (n - 1));
     match v {
-        Value::Boolean(b) => Sense::Is(b),
+        Value::Boolean(b) => Some(b),
         Value::Number(k) => {
             if k == JsNumber::JS_ZERO.bits {
-                return Sense::Is(false);
+                return Some(false);
             }
-            Sense::Is(k != JsNumber::JS_NAN.bits)
+            Some(k != JsNumber::JS_NAN.bits)
         }
-        _ => Sense::Other,
+        _ => None,
     }
 }
 
@@ -69,7 +62,7 @@ pub fn jump_if_false(
     code: &[u8],
     n: usize,
     stacks: &[u64],
-) -> Quick
+) -> Option<Depths>
     requires ready { Ready d stacks.now }
     requires in_frame { InFrame x y d stacks.now }
     requires operand { Operand x n code.now d i }
@@ -77,14 +70,14 @@ pub fn jump_if_false(
     ensures stays { Stays d stacks.now result stacks.now }
 {
     let e = with_ip(d, d.ip + 2);
-    let Sense::Is(t) = truth_of(e, stacks) else {
-        return Quick::Left;
+    let Some(t) = truth_of(e, stacks) else {
+        return None;
     };
     let f = with_operands(e, e.operands - 1);
     if t {
-        return Quick::Went(f);
+        return Some(f);
     }
-    Quick::Went(with_ip(f, i))
+    Some(with_ip(f, i))
 }
 
 pub fn jump_if_true(
@@ -95,7 +88,7 @@ pub fn jump_if_true(
     code: &[u8],
     n: usize,
     stacks: &[u64],
-) -> Quick
+) -> Option<Depths>
     requires ready { Ready d stacks.now }
     requires in_frame { InFrame x y d stacks.now }
     requires operand { Operand x n code.now d i }
@@ -103,18 +96,18 @@ pub fn jump_if_true(
     ensures stays { Stays d stacks.now result stacks.now }
 {
     let e = with_ip(d, d.ip + 2);
-    let Sense::Is(t) = truth_of(e, stacks) else {
-        return Quick::Left;
+    let Some(t) = truth_of(e, stacks) else {
+        return None;
     };
     let f = with_operands(e, e.operands - 1);
     if t {
-        return Quick::Went(with_ip(f, i));
+        return Some(with_ip(f, i));
     }
-    Quick::Went(f)
+    Some(f)
 }
 
 // A throw that is caught in the frame that throws.
-pub fn throw(x: Running, y: Here, d: Depths, stacks: &mut [u64]) -> Quick
+pub fn throw(x: Running, y: Here, d: Depths, stacks: &mut [u64]) -> Option<Depths>
     requires ready { Ready d stacks.old }
     requires in_frame { InFrame x y d stacks.old }
     ensures quickly { Quickly Any Throw d stacks.old result stacks.new }
@@ -122,19 +115,19 @@ pub fn throw(x: Running, y: Here, d: Depths, stacks: &mut [u64]) -> Quick
 {
     let c = d.operands;
     if c == 0 {
-        return Quick::Left;
+        return None;
     }
     let k = d.handlers;
     if k == 0 {
-        return Quick::Left;
+        return None;
     }
     let h = stacks::read_handler(stacks, HANDLERS_AT + 3 * (k - 1));
     if h.frames != d.frames as u64 {
-        return Quick::Left;
+        return None;
     }
     let m = stacks::lesser(c - 1, h.operands as usize);
     value::copy(stacks, 3 * m, 3 * (c - 1));
-    Quick::Went(with_handlers(d, m + 1, k - 1, h.catch as usize))
+    Some(with_handlers(d, m + 1, k - 1, h.catch as usize))
 }
 
 pub fn enter_try(
@@ -145,7 +138,7 @@ pub fn enter_try(
     code: &[u8],
     n: usize,
     stacks: &mut [u64],
-) -> Quick
+) -> Option<Depths>
     requires ready { Ready d stacks.old }
     requires in_frame { InFrame x y d stacks.old }
     requires operand { Operand x n code.now d i }
@@ -154,62 +147,61 @@ pub fn enter_try(
 {
     let h = d.handlers;
     if HANDLER_LIMIT <= h {
-        return Quick::Left;
+        return None;
     }
     let k = HANDLERS_AT + 3 * h;
     stacks[k] = i as u64;
     stacks[k + 1] = d.operands as u64;
     stacks[k + 2] = d.frames as u64;
-    Quick::Went(with_handlers(d, d.operands, h + 1, d.ip + 2))
+    Some(with_handlers(d, d.operands, h + 1, d.ip + 2))
 }
 
-pub fn leave_try(d: Depths) -> Quick
+pub fn leave_try(d: Depths) -> Option<Depths>
     ensures quickly { (w : List ℕ) → Ready d w → Quickly Any LeaveTry d w result w }
     ensures stays { (w : List ℕ) → Stays d w result w }
 {
     let h = d.handlers;
     if h == 0 {
-        return Quick::Left;
+        return None;
     }
-    Quick::Went(with_handlers(d, d.operands, h - 1, d.ip))
+    Some(with_handlers(d, d.operands, h - 1, d.ip))
 }
 
 // These two may take frames off. The value that is returned stands where it is to stand. Where a handler goes with the frame, the dispatcher does it: a loop over
 // handlers here, in every step's loop, costs each step some instructions.
-pub fn return_value(d: Depths, stacks: &[u64]) -> Quick
+pub fn return_value(d: Depths, stacks: &[u64]) -> Option<Depths>
     requires { Ready d stacks.now }
     ensures { Quickly Any Return d stacks.now result stacks.now }
 {
     let c = d.operands;
     if c == 0 {
-        return Quick::Left;
+        return None;
     }
     let k = stacks::minus(d.frames, 1);
     if stacks::saved_more(d.handlers, k, stacks) {
-        return Quick::Left;
+        return None;
     }
     let e = stacks::cut_frames(with_operands(d, c - 1), k, stacks);
-    Quick::Went(with_operands(e, c))
+    Some(with_operands(e, c))
 }
 
-pub fn throw_far(d: Depths, stacks: &mut [u64]) -> Quick
+pub fn throw_far(d: Depths, stacks: &mut [u64]) -> Option<Depths>
     requires { Ready d stacks.old }
     ensures { Quickly Any Throw d stacks.old result stacks.new }
 {
     let c = d.operands;
     if c == 0 {
-        return Quick::Left;
+        return None;
     }
     let k = d.handlers;
     if k == 0 {
-        return Quick::Left;
+        return None;
     }
     let e = with_operands(d, c - 1);
     let h = stacks::read_handler(stacks, HANDLERS_AT + 3 * (k - 1));
     let u = stacks::unwind(e, h, stacks);
     match stacks::push_copy(u, stacks, 3 * (c - 1)) {
-        Made::Went(f) => Quick::Went(with_ip(f, h.catch as usize)),
-        Made::Failed(_) => Quick::Left,
-        Made::Refused(_) => Quick::Left,
+        Ok(f) => Some(with_ip(f, h.catch as usize)),
+        Err(_) => None,
     }
 }

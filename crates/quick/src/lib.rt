@@ -18,23 +18,15 @@ ghost use Rattle.quick.specs.Stays.{Stays, InFrame, Stands};
 
 use fetch::Running;
 use outcome::{with_ip, with_operands};
-use stacks::{Depths, FRAMES_AT, Made, OPERAND_LIMIT, SLOTS_AT};
-use value::Value;
+use stacks::{Depths, FRAMES_AT, OPERAND_LIMIT, SLOTS_AT};
+use value::{Stop, Value};
 
-// An instruction that went, or one that is left whole: nothing is changed.
-#[derive(Clone, Copy)]
-pub enum Quick {
-    Went(Depths),
-    Left,
-}
-
-pub fn settle(r: Made) -> Quick
+pub fn settle(r: Result<Depths, Stop>) -> Option<Depths>
     ensures { result ≡ quick_of r }
 {
     match r {
-        Made::Went(e) => Quick::Went(e),
-        Made::Failed(_) => Quick::Left,
-        Made::Refused(_) => Quick::Left,
+        Ok(e) => Some(e),
+        Err(_) => None,
     }
 }
 
@@ -46,38 +38,32 @@ pub struct Here {
     pub last: usize,
 }
 
-#[derive(Clone, Copy)]
-pub enum Standing {
-    Is(Here),
-    Other,
-}
-
 // Is the newest frame one of the template x, with its slots on top of the others?
-pub fn stand(x: Running, d: Depths, stacks: &[u64]) -> Standing
+pub fn stand(x: Running, d: Depths, stacks: &[u64]) -> Option<Here>
     requires { Ready d stacks.now }
     ensures { Stands x d stacks.now result }
 {
     let k = d.frames;
     if k == 0 {
-        return Standing::Other;
+        return None;
     }
     let f = stacks::read_frame(stacks, FRAMES_AT + 5 * (k - 1));
     if f.image != x.image {
-        return Standing::Other;
+        return None;
     }
     if f.template != x.template {
-        return Standing::Other;
+        return None;
     }
     let n = d.slots;
     let base = f.base as usize;
     if n < base {
-        return Standing::Other;
+        return None;
     }
     let count = n - base;
     if f.count as usize != count {
-        return Standing::Other;
+        return None;
     }
-    Standing::Is(Here {
+    Some(Here {
         slots: SLOTS_AT + 3 * base,
         count,
         last: stacks::minus(x.shape.size, 2),
@@ -108,21 +94,21 @@ pub fn word_at(code: &[u8], at: usize) -> usize
     hi * 256 + lo
 }
 
-pub fn push(d: Depths, stacks: &mut [u64], v: Value) -> Quick
+pub fn push(d: Depths, stacks: &mut [u64], v: Value) -> Option<Depths>
     requires { Ready d stacks.old }
     ensures quickly { Quickly Any (pushed (value_of v)) d stacks.old result stacks.new }
     ensures stays { Stays d stacks.old result stacks.new }
 {
     let n = d.operands;
     if OPERAND_LIMIT <= n {
-        return Quick::Left;
+        return None;
     }
     value::write(stacks, 3 * n, v);
-    Quick::Went(with_operands(d, n + 1))
+    Some(with_operands(d, n + 1))
 }
 
 // The value at place k of the store, pushed.
-pub fn push_copy(d: Depths, stacks: &mut [u64], k: usize) -> Quick
+pub fn push_copy(d: Depths, stacks: &mut [u64], k: usize) -> Option<Depths>
     requires ready { Ready d stacks.old }
     requires k_bound { k + 2 < stack_words }
     ensures quickly { Quickly Any (pushed (value_at stacks.old k)) d stacks.old result stacks.new }
@@ -130,14 +116,14 @@ pub fn push_copy(d: Depths, stacks: &mut [u64], k: usize) -> Quick
 {
     let n = d.operands;
     if OPERAND_LIMIT <= n {
-        return Quick::Left;
+        return None;
     }
     value::copy(stacks, 3 * n, k);
-    Quick::Went(with_operands(d, n + 1))
+    Some(with_operands(d, n + 1))
 }
 
 // The value at place k of another store, pushed.
-pub fn push_from(d: Depths, stacks: &mut [u64], source: &[u64], k: usize) -> Quick
+pub fn push_from(d: Depths, stacks: &mut [u64], source: &[u64], k: usize) -> Option<Depths>
     requires ready { Ready d stacks.old }
     requires k_in_bounds { k + 2 < length source.now }
     ensures quickly { Quickly Any (pushed (value_at source.now k)) d stacks.old result stacks.new }
@@ -145,10 +131,10 @@ pub fn push_from(d: Depths, stacks: &mut [u64], source: &[u64], k: usize) -> Qui
 {
     let n = d.operands;
     if OPERAND_LIMIT <= n {
-        return Quick::Left;
+        return None;
     }
     value::bring(stacks, 3 * n, source, k);
-    Quick::Went(with_operands(d, n + 1))
+    Some(with_operands(d, n + 1))
 }
 
 // i is the operand that follows the opcode, if it has one.
@@ -162,7 +148,7 @@ fn execute(
     n: usize,
     places: &[u16],
     stacks: &mut [u64],
-) -> Quick
+) -> Option<Depths>
     requires ready { Ready d stacks.old }
     requires in_frame { InFrame x y d stacks.old }
     requires operand { Operand x n code.now d i }
@@ -189,7 +175,7 @@ fn execute(
         76 => control::leave_try(d),
         80 => moves::pop(d),
         81 => moves::dup(d, stacks),
-        _ => Quick::Left,
+        _ => None,
     }
 }
 
@@ -202,7 +188,7 @@ pub fn step(
     n: usize,
     places: &[u16],
     stacks: &mut [u64],
-) -> Quick
+) -> Option<Depths>
     requires ready { Ready d stacks.old }
     requires in_frame { InFrame x y d stacks.old }
     requires inside { Inside x n code.now }
@@ -216,5 +202,5 @@ pub fn step(
         let i = word_at(code, at + 1);
         return execute(op, x, y, with_ip(d, p + 1), i, code, n, places, stacks);
     }
-    Quick::Left
+    None
 }

@@ -8,9 +8,8 @@ ghost use Rattle.readops.specs.Holds.{Constants};
 ghost use Rattle.quick.specs.Quickly.{Quickly, Operand};
 ghost use Rattle.quick.specs.Stays.{Stays, InFrame};
 
-use crate::{Here, Quick, push, push_copy};
+use crate::{Here, push, push_copy};
 use fetch::Running;
-use image::FoundConstant;
 use outcome::{with_ip, with_operands};
 use reader::Constant;
 use stacks::Depths;
@@ -26,7 +25,7 @@ pub fn load_const(
     n: usize,
     places: &[u16],
     stacks: &mut [u64],
-) -> Quick
+) -> Option<Depths>
     requires ready { Ready d stacks.old }
     requires in_frame { InFrame x y d stacks.old }
     requires operand { Operand x n code.now d i }
@@ -34,8 +33,8 @@ pub fn load_const(
     ensures stays { Stays d stacks.old result stacks.new }
 {
     let e = with_ip(d, d.ip + 2);
-    let FoundConstant::Is(k) = image::near(code, places, x.shape, i) else {
-        return Quick::Left;
+    let Some(k) = image::near(code, places, x.shape, i) else {
+        return None;
     };
     match k {
         Constant::Number(v) => push(e, stacks, Value::Number(v)),
@@ -43,7 +42,7 @@ pub fn load_const(
         Constant::Bool(b) => push(e, stacks, Value::Boolean(b)),
         Constant::Null => push(e, stacks, Value::Null),
         Constant::Undefined => push(e, stacks, Value::Undefined),
-        Constant::Function(_) => Quick::Left,
+        Constant::Function(_) => None,
     }
 }
 
@@ -55,7 +54,7 @@ pub fn load_local(
     code: &[u8],
     n: usize,
     stacks: &mut [u64],
-) -> Quick
+) -> Option<Depths>
     requires ready { Ready d stacks.old }
     requires in_frame { InFrame x y d stacks.old }
     requires operand { Operand x n code.now d i }
@@ -63,7 +62,7 @@ pub fn load_local(
     ensures stays { Stays d stacks.old result stacks.new }
 {
     if y.count <= i {
-        return Quick::Left;
+        return None;
     }
     push_copy(with_ip(d, d.ip + 2), stacks, y.slots + 3 * i)
 }
@@ -77,7 +76,7 @@ pub fn store_local(
     code: &[u8],
     n: usize,
     stacks: &mut [u64],
-) -> Quick
+) -> Option<Depths>
     requires ready { Ready d stacks.old }
     requires in_frame { InFrame x y d stacks.old }
     requires operand { Operand x n code.now d i }
@@ -87,34 +86,34 @@ pub fn store_local(
     let e = with_ip(d, d.ip + 2);
     let c = d.operands;
     if c == 0 {
-        return Quick::Left;
+        return None;
     }
     if y.count <= i {
-        return Quick::Left;
+        return None;
     }
     value::copy(stacks, y.slots + 3 * i, 3 * (c - 1));
-    Quick::Went(with_operands(e, c - 1))
+    Some(with_operands(e, c - 1))
 }
 
-pub fn pop(d: Depths) -> Quick
+pub fn pop(d: Depths) -> Option<Depths>
     ensures quickly { (w : List ℕ) → Ready d w → Quickly Any Pop d w result w }
     ensures stays { (w : List ℕ) → Stays d w result w }
 {
     let c = d.operands;
     if c == 0 {
-        return Quick::Left;
+        return None;
     }
-    Quick::Went(with_operands(d, c - 1))
+    Some(with_operands(d, c - 1))
 }
 
-pub fn dup(d: Depths, stacks: &mut [u64]) -> Quick
+pub fn dup(d: Depths, stacks: &mut [u64]) -> Option<Depths>
     requires { Ready d stacks.old }
     ensures quickly { Quickly Any Dup d stacks.old result stacks.new }
     ensures stays { Stays d stacks.old result stacks.new }
 {
     let c = d.operands;
     if c == 0 {
-        return Quick::Left;
+        return None;
     }
     push_copy(d, stacks, 3 * (c - 1))
 }

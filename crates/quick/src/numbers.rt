@@ -8,36 +8,27 @@ ghost use Rattle.outcome.specs.Meets.{Any};
 ghost use Rattle.quick.specs.Quickly.{Quickly};
 ghost use Rattle.quick.specs.Stays.{Stays};
 ghost use Rattle.quick.specs.Numbers.{FindsNumbers};
-ghost use Rattle.quick.specs.declared.Quick.TheVariants.{Went};
 
-use crate::Quick;
 use number::JsNumber;
 use outcome::with_operands;
 use stacks::Depths;
 
-// Where the older one of the two newest operands stands, if both are numbers.
-#[derive(Clone, Copy)]
-pub enum BothNumbers {
-    At(usize),
-    Other,
-}
-
-fn find_numbers(d: Depths, stacks: &[u64]) -> BothNumbers
+fn find_numbers(d: Depths, stacks: &[u64]) -> Option<usize>
     requires { Ready d stacks.now }
     ensures { FindsNumbers d stacks.now result }
 {
     let n = d.operands;
     if n < 2 {
-        return BothNumbers::Other;
+        return None;
     }
     let k = 3 * (n - 2);
     if stacks[k] != 3 {
-        return BothNumbers::Other;
+        return None;
     }
     if stacks[k + 3] != 3 {
-        return BothNumbers::Other;
+        return None;
     }
-    BothNumbers::At(k)
+    Some(k)
 }
 
 fn number_at(stacks: &[u64], k: usize) -> JsNumber
@@ -49,13 +40,13 @@ fn number_at(stacks: &[u64], k: usize) -> JsNumber
     }
 }
 
-fn put_number(d: Depths, stacks: &mut [u64], k: usize, v: JsNumber) -> Quick
+fn put_number(d: Depths, stacks: &mut [u64], k: usize, v: JsNumber) -> Option<Depths>
     requires { (k + 1 < length stacks.old) × (1 ≤ d.operands) }
-    ensures value { result ≡ Went (with_operands (d.operands - 1) d) }
+    ensures value { result ≡ Some (with_operands (d.operands - 1) d) }
     ensures stacks_after { stacks.new ≡ set stacks.old (k + 1) v.bits }
 {
     stacks[k + 1] = v.bits;
-    Quick::Went(with_operands(d, d.operands - 1))
+    Some(with_operands(d, d.operands - 1))
 }
 
 fn bit_of(b: bool) -> u64
@@ -64,114 +55,114 @@ fn bit_of(b: bool) -> u64
     if b { 1 } else { 0 }
 }
 
-fn put_bool(d: Depths, stacks: &mut [u64], k: usize, v: bool) -> Quick
+fn put_bool(d: Depths, stacks: &mut [u64], k: usize, v: bool) -> Option<Depths>
     requires { (k + 1 < length stacks.old) × (1 ≤ d.operands) }
-    ensures value { result ≡ Went (with_operands (d.operands - 1) d) }
+    ensures value { result ≡ Some (with_operands (d.operands - 1) d) }
     ensures stacks_after { stacks.new ≡ set (set stacks.old k 2) (k + 1) (bit v) }
 {
     stacks[k] = 2;
     stacks[k + 1] = bit_of(v);
-    Quick::Went(with_operands(d, d.operands - 1))
+    Some(with_operands(d, d.operands - 1))
 }
 
-pub fn add(d: Depths, stacks: &mut [u64]) -> Quick
+pub fn add(d: Depths, stacks: &mut [u64]) -> Option<Depths>
     requires { Ready d stacks.old }
     ensures quickly { Quickly Any Add d stacks.old result stacks.new }
     ensures stays { Stays d stacks.old result stacks.new }
 {
-    let BothNumbers::At(k) = find_numbers(d, stacks) else {
-        return Quick::Left;
+    let Some(k) = find_numbers(d, stacks) else {
+        return None;
     };
     let a = number_at(stacks, k);
     let b = number_at(stacks, k + 3);
     put_number(d, stacks, k, a.add(b))
 }
 
-pub fn sub(d: Depths, stacks: &mut [u64]) -> Quick
+pub fn sub(d: Depths, stacks: &mut [u64]) -> Option<Depths>
     requires { Ready d stacks.old }
     ensures quickly { Quickly Any Sub d stacks.old result stacks.new }
     ensures stays { Stays d stacks.old result stacks.new }
 {
-    let BothNumbers::At(k) = find_numbers(d, stacks) else {
-        return Quick::Left;
+    let Some(k) = find_numbers(d, stacks) else {
+        return None;
     };
     let a = number_at(stacks, k);
     let b = number_at(stacks, k + 3);
     put_number(d, stacks, k, a.sub(b))
 }
 
-pub fn mul(d: Depths, stacks: &mut [u64]) -> Quick
+pub fn mul(d: Depths, stacks: &mut [u64]) -> Option<Depths>
     requires { Ready d stacks.old }
     ensures quickly { Quickly Any Mul d stacks.old result stacks.new }
     ensures stays { Stays d stacks.old result stacks.new }
 {
-    let BothNumbers::At(k) = find_numbers(d, stacks) else {
-        return Quick::Left;
+    let Some(k) = find_numbers(d, stacks) else {
+        return None;
     };
     let a = number_at(stacks, k);
     let b = number_at(stacks, k + 3);
     put_number(d, stacks, k, a.mul(b))
 }
 
-pub fn div(d: Depths, stacks: &mut [u64]) -> Quick
+pub fn div(d: Depths, stacks: &mut [u64]) -> Option<Depths>
     requires { Ready d stacks.old }
     ensures quickly { Quickly Any Div d stacks.old result stacks.new }
     ensures stays { Stays d stacks.old result stacks.new }
 {
-    let BothNumbers::At(k) = find_numbers(d, stacks) else {
-        return Quick::Left;
+    let Some(k) = find_numbers(d, stacks) else {
+        return None;
     };
     let a = number_at(stacks, k);
     let b = number_at(stacks, k + 3);
     put_number(d, stacks, k, a.div(b))
 }
 
-pub fn lt(d: Depths, stacks: &mut [u64]) -> Quick
+pub fn lt(d: Depths, stacks: &mut [u64]) -> Option<Depths>
     requires { Ready d stacks.old }
     ensures quickly { Quickly Any Lt d stacks.old result stacks.new }
     ensures stays { Stays d stacks.old result stacks.new }
 {
-    let BothNumbers::At(k) = find_numbers(d, stacks) else {
-        return Quick::Left;
+    let Some(k) = find_numbers(d, stacks) else {
+        return None;
     };
     let a = number_at(stacks, k);
     let b = number_at(stacks, k + 3);
     put_bool(d, stacks, k, a.less(b))
 }
 
-pub fn gt(d: Depths, stacks: &mut [u64]) -> Quick
+pub fn gt(d: Depths, stacks: &mut [u64]) -> Option<Depths>
     requires { Ready d stacks.old }
     ensures quickly { Quickly Any Gt d stacks.old result stacks.new }
     ensures stays { Stays d stacks.old result stacks.new }
 {
-    let BothNumbers::At(k) = find_numbers(d, stacks) else {
-        return Quick::Left;
+    let Some(k) = find_numbers(d, stacks) else {
+        return None;
     };
     let a = number_at(stacks, k);
     let b = number_at(stacks, k + 3);
     put_bool(d, stacks, k, b.less(a))
 }
 
-pub fn lt_eq(d: Depths, stacks: &mut [u64]) -> Quick
+pub fn lt_eq(d: Depths, stacks: &mut [u64]) -> Option<Depths>
     requires { Ready d stacks.old }
     ensures quickly { Quickly Any LtEq d stacks.old result stacks.new }
     ensures stays { Stays d stacks.old result stacks.new }
 {
-    let BothNumbers::At(k) = find_numbers(d, stacks) else {
-        return Quick::Left;
+    let Some(k) = find_numbers(d, stacks) else {
+        return None;
     };
     let a = number_at(stacks, k);
     let b = number_at(stacks, k + 3);
     put_bool(d, stacks, k, a.less_eq(b))
 }
 
-pub fn gt_eq(d: Depths, stacks: &mut [u64]) -> Quick
+pub fn gt_eq(d: Depths, stacks: &mut [u64]) -> Option<Depths>
     requires { Ready d stacks.old }
     ensures quickly { Quickly Any GtEq d stacks.old result stacks.new }
     ensures stays { Stays d stacks.old result stacks.new }
 {
-    let BothNumbers::At(k) = find_numbers(d, stacks) else {
-        return Quick::Left;
+    let Some(k) = find_numbers(d, stacks) else {
+        return None;
     };
     let a = number_at(stacks, k);
     let b = number_at(stacks, k + 3);

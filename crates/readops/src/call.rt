@@ -9,8 +9,8 @@ ghost use Rattle.outcome.specs.Meets.{Meets};
 ghost use Rattle.fetch.specs.Running.{Runs};
 ghost use Rattle.readops.specs.Holds.{Templates, Callable, CalleeOf, calling};
 
-use fetch::{Fetched, Running, cut_short, fetch};
-use heap::{Registered, Sizes};
+use fetch::{Running, cut_short, fetch};
+use heap::Sizes;
 use outcome::{Part, Stepped, failed, left_to_do, settle, underflow, with_operands};
 use stacks::Depths;
 use value::{JsVmError, Value};
@@ -42,7 +42,7 @@ pub fn callee_of(v: Value) -> Callee
 pub fn call_function(
     d: Depths,
     argc: usize,
-    f: Registered,
+    f: Option<(u64, u64)>,
     rows: &[u16],
     starts: &[u16],
     images: usize,
@@ -53,8 +53,8 @@ pub fn call_function(
     ensures { (code places : List ℕ) → Meets (Templates code places rows.now starts.now images) (calling (function_in f) (arguments stacks.old (d.operands + 1) argc)) d stacks.old result stacks.new }
 {
     match f {
-        Registered::Unknown => failed(JsVmError::InvalidFunctionId, d),
-        Registered::Known(i, t) => {
+        None => failed(JsVmError::InvalidFunctionId, d),
+        Some((i, t)) => {
             let p = image::template_at(rows, starts, images, i as usize, t as usize);
             settle(
                 stacks::call_frame(d, stacks, i, t, argc, p.param_count, p.local_count),
@@ -82,7 +82,7 @@ pub fn call(
     requires sized { Sized z heap.now }
     ensures { (places : List ℕ) → Meets (Callable x n code.now places rows.now starts.now images z heap.now) Call d stacks.old result stacks.new }
 {
-    let Fetched::Got(argc, e) = fetch(x, d, code, n) else {
+    let Some((argc, e)) = fetch(x, d, code, n) else {
         return cut_short(x, d);
     };
     let k = e.operands;

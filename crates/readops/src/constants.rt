@@ -13,10 +13,9 @@ ghost use Rattle.outcome.specs.Meets.{Meets};
 ghost use Rattle.fetch.specs.Running.{Runs, Texts};
 ghost use Rattle.readops.specs.Holds.{Constants};
 
-use fetch::{Fetched, Running, cut_short, fetch_word};
-use image::FoundConstant;
+use fetch::{Running, cut_short, fetch_word};
 use number::format::LONGEST_TEXT;
-use outcome::{Pair, Part, Stepped, left_to_do, pop_two, push_value, underflow};
+use outcome::{Part, Stepped, left_to_do, pop_two, push_value, underflow};
 use reader::Constant;
 use stacks::Depths;
 use texts::Source;
@@ -35,10 +34,10 @@ pub fn load_const(
     requires n_in_bounds { n ≤ length code.now }
     ensures { Meets (Constants x n code.now places.now) LoadConst d stacks.old result stacks.new }
 {
-    let Fetched::Got(i, e) = fetch_word(x, d, code, n) else {
+    let Some((i, e)) = fetch_word(x, d, code, n) else {
         return cut_short(x, d);
     };
-    let FoundConstant::Is(k) = image::constant_at(code, places, x.shape, i) else {
+    let Some(k) = image::constant_at(code, places, x.shape, i) else {
         return push_value(e, stacks, Value::Undefined);
     };
     match k {
@@ -64,10 +63,10 @@ pub fn create_closure(
     requires n_in_bounds { n ≤ length code.now }
     ensures { Meets (Constants x n code.now places.now) CreateClosure d stacks.old result stacks.new }
 {
-    let Fetched::Got(i, e) = fetch_word(x, d, code, n) else {
+    let Some((i, e)) = fetch_word(x, d, code, n) else {
         return cut_short(x, d);
     };
-    let FoundConstant::Is(k) = image::constant_at(code, places, x.shape, i) else {
+    let Some(k) = image::constant_at(code, places, x.shape, i) else {
         return push_value(e, stacks, Value::Undefined);
     };
     match k {
@@ -91,7 +90,7 @@ pub fn name(
     requires { (i < 65536) × (length buffer.old ≡ longest_text) }
     ensures { Spells (λ m. get_string_constant m i (get_elem? (constants_of code.now places.now x.shape.constants x.shape.constant_count) i)) result buffer.new }
 {
-    let FoundConstant::Is(k) = image::constant_at(code, places, x.shape, i) else {
+    let Some(k) = image::constant_at(code, places, x.shape, i) else {
         return arrays::element_key(i, buffer);
     };
     match k {
@@ -131,7 +130,7 @@ pub fn add<'a>(
     requires in_use { InUse code.now n text.now m }
     ensures { Meets (Texts code.now n text.now m) Add d stacks.old result stacks.new }
 {
-    let Pair::Both(a, b, e) = pop_two(d, stacks) else {
+    let Some((a, b, e)) = pop_two(d, stacks) else {
         return underflow(d);
     };
     if is_text(a) {

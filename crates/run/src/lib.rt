@@ -17,20 +17,12 @@ ghost use Rattle.run.specs.Runs.{result_of, ending_of, ran_to, at_rest, Whole, g
 
 use advance::advance_copy;
 use heapops::{Counts, How, with_depths};
-use outcome::End;
 use speed::HINTS;
-use value::{JsVmError, Space, Value};
-
-#[derive(Clone, Copy)]
-pub enum Ending {
-    Finished(Value),
-    Failed(JsVmError),
-    Full(Space),
-}
+use value::{JsVmError, Space, Stop, Value};
 
 #[derive(Clone, Copy)]
 pub struct Ran {
-    pub end: Ending,
+    pub end: Result<Value, Stop>,
     pub steps: usize,
     pub counts: Counts,
 }
@@ -47,19 +39,19 @@ fn at_rest(c: Counts) -> Counts
     c
 }
 
-fn ran_to(end: Ending, steps: usize, c: Counts) -> Ran
+fn ran_to(end: Result<Value, Stop>, steps: usize, c: Counts) -> Ran
     ensures { result ≡ ran_to end steps c }
 {
     let counts = at_rest(c);
     Ran { end, steps, counts }
 }
 
-fn ended_by(e: End) -> Ending
+fn ended_by(e: Result<Value, JsVmError>) -> Result<Value, Stop>
     ensures { result ≡ ending_of e }
 {
     match e {
-        End::Finished(v) => Ending::Finished(v),
-        End::Failed(q) => Ending::Failed(q),
+        Ok(v) => Ok(v),
+        Err(q) => Err(Stop::Failed(q)),
     }
 }
 
@@ -95,13 +87,13 @@ pub fn question(q: Space) -> u64
     }
 }
 
-pub fn end_number(e: Ending) -> u64
+pub fn end_number(e: Result<Value, Stop>) -> u64
     ensures { result ≡ R.end_number (result_of e) }
 {
     match e {
-        Ending::Finished(_) => 0,
-        Ending::Failed(q) => error_number(q),
-        Ending::Full(q) => question(q),
+        Ok(_) => 0,
+        Err(Stop::Failed(q)) => error_number(q),
+        Err(Stop::Refused(q)) => question(q),
     }
 }
 
@@ -121,13 +113,13 @@ fn thrown_value(e: JsVmError) -> Value
     }
 }
 
-pub fn end_value(e: Ending) -> Value
+pub fn end_value(e: Result<Value, Stop>) -> Value
     ensures { value_of result ≡ R.end_value (result_of e) }
 {
     match e {
-        Ending::Finished(v) => v,
-        Ending::Failed(q) => thrown_value(q),
-        Ending::Full(_) => Value::Undefined,
+        Ok(v) => v,
+        Err(Stop::Failed(q)) => thrown_value(q),
+        Err(Stop::Refused(_)) => Value::Undefined,
     }
 }
 
@@ -171,9 +163,13 @@ pub fn run_loop(
                 return ran_to(ended_by(e), steps, d);
             }
             How::Refused(q) => {
-                return ran_to(Ending::Full(q), steps, d);
+                return ran_to(Err(Stop::Refused(q)), steps, d);
             }
         }
     }
-    ran_to(Ending::Failed(JsVmError::ExecutionLimitExceeded), steps, d)
+    ran_to(
+        Err(Stop::Failed(JsVmError::ExecutionLimitExceeded)),
+        steps,
+        d,
+    )
 }

@@ -8,16 +8,9 @@ ghost use Rattle.fetch.specs.Running.{Texts};
 ghost use Rattle.stackops.specs.Numbers.{PairsNumbers};
 
 use number::JsNumber;
-use outcome::{Pair, Stepped, pop_two, push_value, underflow};
-use stacks::{Depths, Popped};
+use outcome::{Stepped, pop_two, push_value, underflow};
+use stacks::Depths;
 use value::Value;
-
-// The two newest operands as numbers, the older one first.
-#[derive(Clone, Copy)]
-pub enum Numbers {
-    Both(JsNumber, JsNumber, Depths),
-    Short,
-}
 
 pub fn pop_numbers<'a>(
     d: Depths,
@@ -26,19 +19,19 @@ pub fn pop_numbers<'a>(
     text: &'a [u8],
     m: usize,
     stacks: &[u64],
-) -> Numbers
+) -> Option<(JsNumber, JsNumber, Depths)>
     requires ready { Ready d stacks.now }
     requires in_use { InUse code.now n text.now m }
     ensures { PairsNumbers (Texts code.now n text.now m) d stacks.now result }
 {
-    let Pair::Both(a, b, e) = pop_two(d, stacks) else {
-        return Numbers::Short;
+    let Some((a, b, e)) = pop_two(d, stacks) else {
+        return None;
     };
-    Numbers::Both(
+    Some((
         convert::to_number(code, n, text, m, a),
         convert::to_number(code, n, text, m, b),
         e,
-    )
+    ))
 }
 
 pub fn sub<'a>(
@@ -53,7 +46,7 @@ pub fn sub<'a>(
     requires in_use { InUse code.now n text.now m }
     ensures { Meets (Texts code.now n text.now m) Sub d stacks.old result stacks.new }
 {
-    let Numbers::Both(a, b, e) = pop_numbers(d, code, n, text, m, stacks) else {
+    let Some((a, b, e)) = pop_numbers(d, code, n, text, m, stacks) else {
         return underflow(d);
     };
     push_value(e, stacks, Value::Number(a.sub(b).bits))
@@ -71,7 +64,7 @@ pub fn mul<'a>(
     requires in_use { InUse code.now n text.now m }
     ensures { Meets (Texts code.now n text.now m) Mul d stacks.old result stacks.new }
 {
-    let Numbers::Both(a, b, e) = pop_numbers(d, code, n, text, m, stacks) else {
+    let Some((a, b, e)) = pop_numbers(d, code, n, text, m, stacks) else {
         return underflow(d);
     };
     push_value(e, stacks, Value::Number(a.mul(b).bits))
@@ -89,7 +82,7 @@ pub fn div<'a>(
     requires in_use { InUse code.now n text.now m }
     ensures { Meets (Texts code.now n text.now m) Div d stacks.old result stacks.new }
 {
-    let Numbers::Both(a, b, e) = pop_numbers(d, code, n, text, m, stacks) else {
+    let Some((a, b, e)) = pop_numbers(d, code, n, text, m, stacks) else {
         return underflow(d);
     };
     push_value(e, stacks, Value::Number(a.div(b).bits))
@@ -107,7 +100,7 @@ pub fn modulo<'a>(
     requires in_use { InUse code.now n text.now m }
     ensures { Meets (Texts code.now n text.now m) Mod d stacks.old result stacks.new }
 {
-    let Numbers::Both(a, b, e) = pop_numbers(d, code, n, text, m, stacks) else {
+    let Some((a, b, e)) = pop_numbers(d, code, n, text, m, stacks) else {
         return underflow(d);
     };
     push_value(e, stacks, Value::Number(a.rem(b).bits))
@@ -125,7 +118,7 @@ pub fn neg<'a>(
     requires in_use { InUse code.now n text.now m }
     ensures { Meets (Texts code.now n text.now m) Neg d stacks.old result stacks.new }
 {
-    let Popped::Took(v, e) = stacks::pop(d, stacks) else {
+    let Some((v, e)) = stacks::pop(d, stacks) else {
         return underflow(d);
     };
     let a = convert::to_number(code, n, text, m, v);
@@ -137,7 +130,7 @@ pub fn not(d: Depths, n: usize, m: usize, stacks: &mut [u64]) -> Stepped
     requires { Ready d stacks.old }
     ensures { (code text : List ℕ) → InUse code n text m → Meets (Texts code n text m) Not d stacks.old result stacks.new }
 {
-    let Popped::Took(v, e) = stacks::pop(d, stacks) else {
+    let Some((v, e)) = stacks::pop(d, stacks) else {
         return underflow(d);
     };
     push_value(e, stacks, Value::Boolean(!convert::to_boolean(n, m, v)))
@@ -155,7 +148,7 @@ pub fn bit_and<'a>(
     requires in_use { InUse code.now n text.now m }
     ensures { Meets (Texts code.now n text.now m) BitAnd d stacks.old result stacks.new }
 {
-    let Numbers::Both(a, b, e) = pop_numbers(d, code, n, text, m, stacks) else {
+    let Some((a, b, e)) = pop_numbers(d, code, n, text, m, stacks) else {
         return underflow(d);
     };
     push_value(e, stacks, Value::Number(a.and(b).bits))
@@ -173,7 +166,7 @@ pub fn bit_or<'a>(
     requires in_use { InUse code.now n text.now m }
     ensures { Meets (Texts code.now n text.now m) BitOr d stacks.old result stacks.new }
 {
-    let Numbers::Both(a, b, e) = pop_numbers(d, code, n, text, m, stacks) else {
+    let Some((a, b, e)) = pop_numbers(d, code, n, text, m, stacks) else {
         return underflow(d);
     };
     push_value(e, stacks, Value::Number(a.or(b).bits))
@@ -191,7 +184,7 @@ pub fn bit_xor<'a>(
     requires in_use { InUse code.now n text.now m }
     ensures { Meets (Texts code.now n text.now m) BitXor d stacks.old result stacks.new }
 {
-    let Numbers::Both(a, b, e) = pop_numbers(d, code, n, text, m, stacks) else {
+    let Some((a, b, e)) = pop_numbers(d, code, n, text, m, stacks) else {
         return underflow(d);
     };
     push_value(e, stacks, Value::Number(a.xor(b).bits))
@@ -209,7 +202,7 @@ pub fn shift_left<'a>(
     requires in_use { InUse code.now n text.now m }
     ensures { Meets (Texts code.now n text.now m) ShiftLeft d stacks.old result stacks.new }
 {
-    let Numbers::Both(a, b, e) = pop_numbers(d, code, n, text, m, stacks) else {
+    let Some((a, b, e)) = pop_numbers(d, code, n, text, m, stacks) else {
         return underflow(d);
     };
     push_value(e, stacks, Value::Number(a.shift_left(b).bits))
@@ -227,7 +220,7 @@ pub fn shift_right<'a>(
     requires in_use { InUse code.now n text.now m }
     ensures { Meets (Texts code.now n text.now m) ShiftRight d stacks.old result stacks.new }
 {
-    let Numbers::Both(a, b, e) = pop_numbers(d, code, n, text, m, stacks) else {
+    let Some((a, b, e)) = pop_numbers(d, code, n, text, m, stacks) else {
         return underflow(d);
     };
     push_value(e, stacks, Value::Number(a.shift_right(b).bits))

@@ -6,8 +6,8 @@ ghost use Rattle.texts.specs.Sources.{InUse};
 ghost use Rattle.outcome.specs.Meets.{Meets, Any};
 ghost use Rattle.fetch.specs.Running.{Texts};
 
-use crate::arithmetic::{Numbers, pop_numbers};
-use outcome::{Pair, Stepped, pop_two, push_value, underflow};
+use crate::arithmetic::pop_numbers;
+use outcome::{Stepped, pop_two, push_value, underflow};
 use stacks::Depths;
 use value::Value;
 
@@ -23,7 +23,7 @@ pub fn eq<'a>(
     requires in_use { InUse code.now n text.now m }
     ensures { Meets (Texts code.now n text.now m) Eq d stacks.old result stacks.new }
 {
-    let Pair::Both(a, b, e) = pop_two(d, stacks) else {
+    let Some((a, b, e)) = pop_two(d, stacks) else {
         return underflow(d);
     };
     push_value(
@@ -45,7 +45,7 @@ pub fn strict_eq<'a>(
     requires in_use { InUse code.now n text.now m }
     ensures { Meets (Texts code.now n text.now m) StrictEq d stacks.old result stacks.new }
 {
-    let Pair::Both(a, b, e) = pop_two(d, stacks) else {
+    let Some((a, b, e)) = pop_two(d, stacks) else {
         return underflow(d);
     };
     push_value(
@@ -67,7 +67,7 @@ pub fn not_eq<'a>(
     requires in_use { InUse code.now n text.now m }
     ensures { Meets (Texts code.now n text.now m) NotEq d stacks.old result stacks.new }
 {
-    let Pair::Both(a, b, e) = pop_two(d, stacks) else {
+    let Some((a, b, e)) = pop_two(d, stacks) else {
         return underflow(d);
     };
     push_value(
@@ -89,7 +89,7 @@ pub fn strict_not_eq<'a>(
     requires in_use { InUse code.now n text.now m }
     ensures { Meets (Texts code.now n text.now m) StrictNotEq d stacks.old result stacks.new }
 {
-    let Pair::Both(a, b, e) = pop_two(d, stacks) else {
+    let Some((a, b, e)) = pop_two(d, stacks) else {
         return underflow(d);
     };
     push_value(
@@ -111,7 +111,7 @@ pub fn lt<'a>(
     requires in_use { InUse code.now n text.now m }
     ensures { Meets (Texts code.now n text.now m) Lt d stacks.old result stacks.new }
 {
-    let Numbers::Both(a, b, e) = pop_numbers(d, code, n, text, m, stacks) else {
+    let Some((a, b, e)) = pop_numbers(d, code, n, text, m, stacks) else {
         return underflow(d);
     };
     push_value(e, stacks, Value::Boolean(a.less(b)))
@@ -129,7 +129,7 @@ pub fn gt<'a>(
     requires in_use { InUse code.now n text.now m }
     ensures { Meets (Texts code.now n text.now m) Gt d stacks.old result stacks.new }
 {
-    let Numbers::Both(a, b, e) = pop_numbers(d, code, n, text, m, stacks) else {
+    let Some((a, b, e)) = pop_numbers(d, code, n, text, m, stacks) else {
         return underflow(d);
     };
     push_value(e, stacks, Value::Boolean(b.less(a)))
@@ -147,7 +147,7 @@ pub fn lt_eq<'a>(
     requires in_use { InUse code.now n text.now m }
     ensures { Meets (Texts code.now n text.now m) LtEq d stacks.old result stacks.new }
 {
-    let Numbers::Both(a, b, e) = pop_numbers(d, code, n, text, m, stacks) else {
+    let Some((a, b, e)) = pop_numbers(d, code, n, text, m, stacks) else {
         return underflow(d);
     };
     push_value(e, stacks, Value::Boolean(a.less_eq(b)))
@@ -165,7 +165,7 @@ pub fn gt_eq<'a>(
     requires in_use { InUse code.now n text.now m }
     ensures { Meets (Texts code.now n text.now m) GtEq d stacks.old result stacks.new }
 {
-    let Numbers::Both(a, b, e) = pop_numbers(d, code, n, text, m, stacks) else {
+    let Some((a, b, e)) = pop_numbers(d, code, n, text, m, stacks) else {
         return underflow(d);
     };
     push_value(e, stacks, Value::Boolean(b.less_eq(a)))
@@ -175,7 +175,7 @@ pub fn logical_and(d: Depths, n: usize, m: usize, stacks: &mut [u64]) -> Stepped
     requires { Ready d stacks.old }
     ensures { (code text : List ℕ) → InUse code n text m → Meets (Texts code n text m) LogicalAnd d stacks.old result stacks.new }
 {
-    let Pair::Both(a, b, e) = pop_two(d, stacks) else {
+    let Some((a, b, e)) = pop_two(d, stacks) else {
         return underflow(d);
     };
     if convert::to_boolean(n, m, a) {
@@ -188,7 +188,7 @@ pub fn logical_or(d: Depths, n: usize, m: usize, stacks: &mut [u64]) -> Stepped
     requires { Ready d stacks.old }
     ensures { (code text : List ℕ) → InUse code n text m → Meets (Texts code n text m) LogicalOr d stacks.old result stacks.new }
 {
-    let Pair::Both(a, b, e) = pop_two(d, stacks) else {
+    let Some((a, b, e)) = pop_two(d, stacks) else {
         return underflow(d);
     };
     if convert::to_boolean(n, m, a) {
@@ -202,7 +202,7 @@ pub fn never(d: Depths, stacks: &mut [u64]) -> Stepped
     requires { Ready d stacks.old }
     ensures { Meets Any In d stacks.old result stacks.new }
 {
-    let Pair::Both(_, _, e) = pop_two(d, stacks) else {
+    let Some((_, _, e)) = pop_two(d, stacks) else {
         return underflow(d);
     };
     push_value(e, stacks, Value::Boolean(false))

@@ -5,16 +5,16 @@ ghost use Rattle.stacks.specs.View.{Ready};
 ghost use Rattle.outcome.specs.Meets.{Meets, Any};
 ghost use Rattle.fetch.specs.Running.{Runs, Coded, CodedText};
 
-use fetch::{Fetched, Running, cut_short, fetch_word};
-use outcome::{End, Part, Stepped, ended, failed, push_value, settle, underflow, went, with_ip};
-use stacks::{Depths, Made, Popped};
+use fetch::{Running, cut_short, fetch_word};
+use outcome::{Stepped, ended, failed, push_value, settle, stopped, underflow, went, with_ip};
+use stacks::Depths;
 use value::{JsVmError, Value};
 
 pub fn jump(x: Running, d: Depths, code: &[u8], n: usize) -> Stepped
     requires { n ≤ length code.now }
     ensures { (w : List ℕ) → Runs x d w → Meets (Coded x n code.now) Jump d w result w }
 {
-    let Fetched::Got(p, e) = fetch_word(x, d, code, n) else {
+    let Some((p, e)) = fetch_word(x, d, code, n) else {
         return cut_short(x, d);
     };
     went(with_ip(e, p))
@@ -34,10 +34,10 @@ pub fn jump_if_false(
     requires n_in_bounds { n ≤ length code.now }
     ensures { (text : List ℕ) → m ≤ length text → Meets (CodedText x n code.now m text) JumpIfFalse d stacks.now result stacks.now }
 {
-    let Fetched::Got(p, e) = fetch_word(x, d, code, n) else {
+    let Some((p, e)) = fetch_word(x, d, code, n) else {
         return cut_short(x, d);
     };
-    let Popped::Took(v, f) = stacks::pop(e, stacks) else {
+    let Some((v, f)) = stacks::pop(e, stacks) else {
         return underflow(e);
     };
     if convert::to_boolean(n, m, v) {
@@ -59,10 +59,10 @@ pub fn jump_if_true(
     requires n_in_bounds { n ≤ length code.now }
     ensures { (text : List ℕ) → m ≤ length text → Meets (CodedText x n code.now m text) JumpIfTrue d stacks.now result stacks.now }
 {
-    let Fetched::Got(p, e) = fetch_word(x, d, code, n) else {
+    let Some((p, e)) = fetch_word(x, d, code, n) else {
         return cut_short(x, d);
     };
-    let Popped::Took(v, f) = stacks::pop(e, stacks) else {
+    let Some((v, f)) = stacks::pop(e, stacks) else {
         return underflow(e);
     };
     if convert::to_boolean(n, m, v) {
@@ -75,7 +75,7 @@ pub fn return_value(d: Depths, stacks: &mut [u64]) -> Stepped
     requires { Ready d stacks.old }
     ensures { Meets Any Return d stacks.old result stacks.new }
 {
-    let Popped::Took(v, e) = stacks::pop(d, stacks) else {
+    let Some((v, e)) = stacks::pop(d, stacks) else {
         return underflow(d);
     };
     let f = stacks::pop_frame(e, stacks);
@@ -86,7 +86,7 @@ pub fn throw(d: Depths, stacks: &mut [u64]) -> Stepped
     requires { Ready d stacks.old }
     ensures { Meets Any Throw d stacks.old result stacks.new }
 {
-    let Popped::Took(v, e) = stacks::pop(d, stacks) else {
+    let Some((v, e)) = stacks::pop(d, stacks) else {
         return underflow(d);
     };
     let k = e.handlers;
@@ -96,12 +96,8 @@ pub fn throw(d: Depths, stacks: &mut [u64]) -> Stepped
     let h = stacks::read_handler(stacks, stacks::HANDLERS_AT + 3 * (k - 1));
     let u = stacks::unwind(e, h, stacks);
     match stacks::push(u, stacks, v) {
-        Made::Went(f) => went(with_ip(f, h.catch as usize)),
-        Made::Failed(q) => failed(q, u),
-        Made::Refused(q) => Stepped {
-            depths: u,
-            how: Part::Refused(q),
-        },
+        Ok(f) => went(with_ip(f, h.catch as usize)),
+        Err(s) => stopped(s, u),
     }
 }
 
@@ -111,7 +107,7 @@ pub fn enter_try(x: Running, d: Depths, code: &[u8], n: usize, stacks: &mut [u64
     requires n_in_bounds { n ≤ length code.now }
     ensures { Meets (Coded x n code.now) EnterTry d stacks.old result stacks.new }
 {
-    let Fetched::Got(p, e) = fetch_word(x, d, code, n) else {
+    let Some((p, e)) = fetch_word(x, d, code, n) else {
         return cut_short(x, d);
     };
     settle(stacks::push_handler(e, stacks, p as u64), e)
@@ -128,8 +124,8 @@ pub fn halt(d: Depths, stacks: &[u64]) -> Stepped
     requires { Ready d stacks.now }
     ensures { Meets Any Halt d stacks.now result stacks.now }
 {
-    let Popped::Took(v, e) = stacks::pop(d, stacks) else {
-        return ended(End::Finished(Value::Undefined), d);
+    let Some((v, e)) = stacks::pop(d, stacks) else {
+        return ended(Ok(Value::Undefined), d);
     };
-    ended(End::Finished(v), e)
+    ended(Ok(v), e)
 }

@@ -5,9 +5,9 @@ ghost use Rattle.stacks.specs.View.{Ready};
 ghost use Rattle.outcome.specs.Meets.{Meets, Any};
 ghost use Rattle.fetch.specs.Running.{Runs, Coded};
 
-use fetch::{Fetched, Running, cut_short, fetch_word};
+use fetch::{Running, cut_short, fetch_word};
 use outcome::{Stepped, push_value, settle, underflow, went};
-use stacks::{Depths, Popped};
+use stacks::Depths;
 use value::Value;
 
 pub fn load_local(x: Running, d: Depths, code: &[u8], n: usize, stacks: &mut [u64]) -> Stepped
@@ -16,7 +16,7 @@ pub fn load_local(x: Running, d: Depths, code: &[u8], n: usize, stacks: &mut [u6
     requires n_in_bounds { n ≤ length code.now }
     ensures { Meets (Coded x n code.now) LoadLocal d stacks.old result stacks.new }
 {
-    let Fetched::Got(i, e) = fetch_word(x, d, code, n) else {
+    let Some((i, e)) = fetch_word(x, d, code, n) else {
         return cut_short(x, d);
     };
     let v = stacks::read_slot(e, stacks, i);
@@ -29,10 +29,10 @@ pub fn store_local(x: Running, d: Depths, code: &[u8], n: usize, stacks: &mut [u
     requires n_in_bounds { n ≤ length code.now }
     ensures { Meets (Coded x n code.now) StoreLocal d stacks.old result stacks.new }
 {
-    let Fetched::Got(i, e) = fetch_word(x, d, code, n) else {
+    let Some((i, e)) = fetch_word(x, d, code, n) else {
         return cut_short(x, d);
     };
-    let Popped::Took(v, f) = stacks::pop(e, stacks) else {
+    let Some((v, f)) = stacks::pop(e, stacks) else {
         return underflow(e);
     };
     settle(stacks::store(f, stacks, i, v), f)
@@ -49,7 +49,7 @@ pub fn pop(d: Depths, stacks: &[u64]) -> Stepped
     requires { Ready d stacks.now }
     ensures { Meets Any Pop d stacks.now result stacks.now }
 {
-    let Popped::Took(_, e) = stacks::pop(d, stacks) else {
+    let Some((_, e)) = stacks::pop(d, stacks) else {
         return underflow(d);
     };
     went(e)

@@ -1,6 +1,6 @@
 -- A called function's frame: its arguments, taken from the operands, and Undefined for what is missing. Assumes nothing.
 use Rattle.stacks.specs.Layout.{slot_limit, slots_at, frames_at, handlers_at}
-use Rattle.std.specs.Prelude.{ℕ, zero, suc, ◌+◌, ◌-◌, ◌*◌, ◌≤◌, ◌<◌, min, max, List, [], ◌∷◌, ◌++◌, ◌≡◌, refl, length, replicate}
+use Rattle.std.specs.Prelude.{ℕ, zero, suc, ◌+◌, ◌-◌, ◌*◌, ◌≤◌, ◌<◌, min, max, List, [], ◌∷◌, ◌++◌, ◌≡◌, refl, length, replicate, Ok}
 use Rattle.std.proofs.Common.{arith, zero-add, suc-add, append_assoc, sym, ap, ap₂, ◌∙◌, length-append}
 use Rattle.std.proofs.Math.Decide.{dec_lt}
 use Rattle.std.proofs.lemmas.List.{length-replicate, replicate-append-replicate}
@@ -14,7 +14,6 @@ use Rattle.value.specs.Words.{value_of, value_at, set_value, value_same, value_r
 use Rattle.value.specs.Arena.{Apart, apart_below, apart_above}
 use Rattle.value.specs.Lists.{row_of, row_append, row_ext}
 use Rattle.stacks.specs.declared.Depths.{Depths}
-use Rattle.stacks.specs.declared.Made.TheVariants.{Went}
 use Rattle.stacks.specs.View
 use Rattle.stacks.specs.Laws.{operands_kept, slots_kept, frames_kept, handlers_kept}
 use Rattle.stacks.specs.Slots.{undefined_rows}
@@ -112,8 +111,8 @@ passes w w₁ w₂ from argc n params locals m e l c f =
 
 -- a frame pushed after its slots were laid above those that stand
 pub frame_called : (d : Depths) (w w₁ w₂ : List ℕ) (r : Depths) (image template from argc params locals : ℕ) → View.Ready d w
-    → View.Passes w w₁ from argc d.slots params locals → View.Makes (A.push_frame image template (View.above w₁ d.slots (max params locals))) d w₁ (Went r) w₂
-    → View.Makes (A.push_frame image template (View.called w from argc params locals)) d w (Went r) w₂
+    → View.Passes w w₁ from argc d.slots params locals → View.Makes (A.push_frame image template (View.above w₁ d.slots (max params locals))) d w₁ (Ok r) w₂
+    → View.Makes (A.push_frame image template (View.called w from argc params locals)) d w (Ok r) w₂
 frame_called d w w₁ w₂ r image template from argc params locals good p m =
     let o = operands_kept w w₁ d.operands (apart_below p.apart 0 (0 + 3 * d.operands) (omega (arith, good.operands))) in
     let l = slots_kept w w₁ d.slots (apart_below p.apart slots_at (slots_at + 3 * d.slots) (omega arith)) in

@@ -9,10 +9,9 @@ ghost use Rattle.value.specs.Words.{value_of, value_at};
 ghost use Rattle.stacks.specs.Layout.{slot_limit, frame_limit, handler_limit, slots_at, frames_at, handlers_at, stack_words};
 ghost use Rattle.stacks.specs.View.{on_stacks, Ready, Pops, Makes, PopsHandler, Truncates, Keeps, Cuts, handlers_of, saved_more, PendingOver, PopsFrame, Unwinds, frame_at, frame_of, handler_at, handler_of, top_of, slot_of, Filled, Puts, Saves, set_frame, above, Copies, Passes, called};
 ghost use Rattle.stacks.specs.Places.{Stands};
-ghost use Rattle.stacks.specs.declared.Made.TheVariants.{Went};
 ghost use Rattle.machine.specs.State.{operand_limit};
 
-use value::{JsVmError, Space, Value};
+use value::{JsVmError, Space, Stop, Value};
 
 // The limits of documents 01 and 02, and where each stack begins: an operand and a slot have 3 words, a frame 5, a handler 3.
 pub const OPERAND_LIMIT: usize = 1024;
@@ -42,26 +41,6 @@ pub struct Depths {
     pub ip: usize,
 }
 
-// What came of an act: it was made, an error stopped it, or a store refused.
-#[derive(Clone, Copy)]
-pub enum Made {
-    Went(Depths),
-    Failed(JsVmError),
-    Refused(Space),
-}
-
-#[derive(Clone, Copy)]
-pub enum Popped {
-    Took(Value, Depths),
-    Empty,
-}
-
-#[derive(Clone, Copy)]
-pub enum Place {
-    At(usize),
-    Nowhere,
-}
-
 #[derive(Clone, Copy)]
 pub struct Frame {
     pub image: u64,
@@ -78,18 +57,18 @@ pub struct Handler {
     pub frames: u64,
 }
 
-pub fn pop(d: Depths, stacks: &[u64]) -> Popped
+pub fn pop(d: Depths, stacks: &[u64]) -> Option<(Value, Depths)>
     requires { Ready d stacks.now }
     ensures { Pops d stacks.now result }
 {
     let n = d.operands;
     if n == 0 {
-        return Popped::Empty;
+        return None;
     }
     let v = value::read(stacks, 3 * (n - 1));
     let mut e = d;
     e.operands = n - 1;
-    Popped::Took(v, e)
+    Some((v, e))
 }
 
 // The newest operand, or Undefined.
@@ -113,7 +92,7 @@ pub fn truncate(d: Depths, n: usize) -> Depths
     e
 }
 
-pub fn push(d: Depths, stacks: &mut [u64], v: Value) -> Made
+pub fn push(d: Depths, stacks: &mut [u64], v: Value) -> Result<Depths, Stop>
     requires { Ready d stacks.old }
     ensures { Makes (push (value_of v)) d stacks.old result stacks.new }
 {
@@ -122,13 +101,13 @@ pub fn push(d: Depths, stacks: &mut [u64], v: Value) -> Made
         value::write(stacks, 3 * n, v);
         let mut e = d;
         e.operands = n + 1;
-        return Made::Went(e);
+        return Ok(e);
     }
-    Made::Failed(JsVmError::StackOverflow)
+    Err(Stop::Failed(JsVmError::StackOverflow))
 }
 
 // The value at place k of the store, pushed.
-pub fn push_copy(d: Depths, stacks: &mut [u64], k: usize) -> Made
+pub fn push_copy(d: Depths, stacks: &mut [u64], k: usize) -> Result<Depths, Stop>
     requires ready { Ready d stacks.old }
     requires k_bound { k + 2 < stack_words }
     ensures { Makes (push (value_at stacks.old k)) d stacks.old result stacks.new }
@@ -138,13 +117,13 @@ pub fn push_copy(d: Depths, stacks: &mut [u64], k: usize) -> Made
         value::copy(stacks, 3 * n, k);
         let mut e = d;
         e.operands = n + 1;
-        return Made::Went(e);
+        return Ok(e);
     }
-    Made::Failed(JsVmError::StackOverflow)
+    Err(Stop::Failed(JsVmError::StackOverflow))
 }
 
 // The value at place k of another store, pushed.
-pub fn push_from(d: Depths, stacks: &mut [u64], source: &[u64], k: usize) -> Made
+pub fn push_from(d: Depths, stacks: &mut [u64], source: &[u64], k: usize) -> Result<Depths, Stop>
     requires ready { Ready d stacks.old }
     requires k_in_bounds { k + 2 < length source.now }
     ensures { Makes (push (value_at source.now k)) d stacks.old result stacks.new }
@@ -154,9 +133,9 @@ pub fn push_from(d: Depths, stacks: &mut [u64], source: &[u64], k: usize) -> Mad
         value::bring(stacks, 3 * n, source, k);
         let mut e = d;
         e.operands = n + 1;
-        return Made::Went(e);
+        return Ok(e);
     }
-    Made::Failed(JsVmError::StackOverflow)
+    Err(Stop::Failed(JsVmError::StackOverflow))
 }
 
 pub fn read_frame(w: &[u64], k: usize) -> Frame
@@ -183,16 +162,16 @@ pub fn read_handler(w: &[u64], k: usize) -> Handler
     }
 }
 
-pub fn push_handler(d: Depths, stacks: &mut [u64], catch: u64) -> Made
+pub fn push_handler(d: Depths, stacks: &mut [u64], catch: u64) -> Result<Depths, Stop>
     requires { Ready d stacks.old }
     ensures { Makes (push_handler catch) d stacks.old result stacks.new }
 {
     if d.frames == 0 {
-        return Made::Failed(JsVmError::NoCallFrame);
+        return Err(Stop::Failed(JsVmError::NoCallFrame));
     }
     let n = d.handlers;
     if HANDLER_LIMIT <= n {
-        return Made::Refused(Space::Handlers);
+        return Err(Stop::Refused(Space::Handlers));
     }
     let k = HANDLERS_AT + 3 * n;
     stacks[k] = catch;
@@ -200,7 +179,7 @@ pub fn push_handler(d: Depths, stacks: &mut [u64], catch: u64) -> Made
     stacks[k + 2] = d.frames as u64;
     let mut e = d;
     e.handlers = n + 1;
-    Made::Went(e)
+    Ok(e)
 }
 
 pub fn pop_handler(d: Depths) -> Depths
@@ -332,27 +311,27 @@ pub fn unwind(d: Depths, h: Handler, stacks: &[u64]) -> Depths
 }
 
 // Where slot i of the newest frame stands.
-pub fn slot_place(d: Depths, stacks: &[u64], i: usize) -> Place
+pub fn slot_place(d: Depths, stacks: &[u64], i: usize) -> Option<usize>
     requires { Ready d stacks.now }
     ensures { Stands d stacks.now i result }
 {
     let k = d.frames;
     if k == 0 {
-        return Place::Nowhere;
+        return None;
     }
     let f = read_frame(stacks, FRAMES_AT + 5 * (k - 1));
     if f.count <= i as u64 {
-        return Place::Nowhere;
+        return None;
     }
     let n = d.slots;
     if n <= i {
-        return Place::Nowhere;
+        return None;
     }
     let b = f.base as usize;
     if n - i <= b {
-        return Place::Nowhere;
+        return None;
     }
-    Place::At(SLOTS_AT + 3 * (b + i))
+    Some(SLOTS_AT + 3 * (b + i))
 }
 
 // Slot i of the newest frame, or Undefined.
@@ -360,7 +339,7 @@ pub fn read_slot(d: Depths, stacks: &[u64], i: usize) -> Value
     requires { Ready d stacks.now }
     ensures { value_of result ≡ slot_of d stacks.now i }
 {
-    let Place::At(k) = slot_place(d, stacks, i) else {
+    let Some(k) = slot_place(d, stacks, i) else {
         return Value::Undefined;
     };
     value::read(stacks, k)
@@ -403,28 +382,28 @@ pub fn put(w: &mut [u64], n: usize, base: u64, i: usize, v: Value)
 }
 
 // A value into slot i of the newest frame, which grows to have it.
-pub fn store(d: Depths, stacks: &mut [u64], i: usize, v: Value) -> Made
+pub fn store(d: Depths, stacks: &mut [u64], i: usize, v: Value) -> Result<Depths, Stop>
     requires ready { Ready d stacks.old }
     requires i_bound { i < 65536 }
     ensures { Makes (store i (value_of v)) d stacks.old result stacks.new }
 {
     let k = d.frames;
     if k == 0 {
-        return Made::Went(d);
+        return Ok(d);
     }
     let at = FRAMES_AT + 5 * (k - 1);
     let f = read_frame(stacks, at);
     let more = lacking(i, f.count);
     let n = d.slots;
     if SLOT_LIMIT - n < more {
-        return Made::Refused(Space::Slots);
+        return Err(Stop::Refused(Space::Slots));
     }
     fill(stacks, n, n + more);
     stacks[at + 4] = f.count + more as u64;
     put(stacks, n + more, f.base, i, v);
     let mut e = d;
     e.slots = n + more;
-    Made::Went(e)
+    Ok(e)
 }
 
 // The newest frame's place, from the depths into its row.
@@ -454,7 +433,7 @@ pub fn write_frame(w: &mut [u64], k: usize, f: Frame)
 fn add_frame(d: Depths, stacks: &mut [u64], image: u64, template: u64, count: usize) -> Depths
     requires ready { Ready d stacks.old }
     requires frames_lt_frame_limit { (d.frames < frame_limit) × (count ≤ slot_limit - d.slots) }
-    ensures { Makes (push_frame image template (above stacks.old d.slots count)) d stacks.old (Went result) stacks.new }
+    ensures { Makes (push_frame image template (above stacks.old d.slots count)) d stacks.old (Ok result) stacks.new }
 {
     let k = d.frames;
     let n = d.slots;
@@ -478,14 +457,14 @@ fn add_frame(d: Depths, stacks: &mut [u64], image: u64, template: u64, count: us
 }
 
 // A run's own frame: it has no slots.
-pub fn push_frame(d: Depths, stacks: &mut [u64], image: u64, template: u64) -> Made
+pub fn push_frame(d: Depths, stacks: &mut [u64], image: u64, template: u64) -> Result<Depths, Stop>
     requires { Ready d stacks.old }
     ensures { Makes (push_frame image template []) d stacks.old result stacks.new }
 {
     if FRAME_LIMIT <= d.frames {
-        return Made::Refused(Space::Frames);
+        return Err(Stop::Refused(Space::Frames));
     }
-    Made::Went(add_frame(d, stacks, image, template, 0))
+    Ok(add_frame(d, stacks, image, template, 0))
 }
 
 // `count` operands from number `from` on, into the slots from number `to` on.
@@ -521,19 +500,19 @@ pub fn call_frame(
     argc: usize,
     params: usize,
     locals: usize,
-) -> Made
+) -> Result<Depths, Stop>
     requires ready { Ready d stacks.old }
     requires argc_bound { d.operands + 1 + argc ≤ operand_limit }
     ensures { Makes (push_frame image template (called stacks.old (d.operands + 1) argc params locals)) d stacks.old result stacks.new }
 {
     if FRAME_LIMIT <= d.frames {
-        return Made::Refused(Space::Frames);
+        return Err(Stop::Refused(Space::Frames));
     }
     let n = d.slots;
     let count = greater(params, locals);
     if SLOT_LIMIT - n < count {
-        return Made::Refused(Space::Slots);
+        return Err(Stop::Refused(Space::Slots));
     }
     pass_arguments(stacks, d.operands + 1, argc, n, params, locals);
-    Made::Went(add_frame(d, stacks, image, template, count))
+    Ok(add_frame(d, stacks, image, template, count))
 }

@@ -3,8 +3,8 @@ ghost use Rattle.std.specs.Prelude.{◌≡◌, ℕ, ◌<◌, List, length};
 ghost use Rattle.stacks.specs.Layout.{stack_words};
 ghost use Rattle.stacks.specs.View.{Ready, MadeReady};
 
-use stacks::{Depths, Made, Popped};
-use value::{JsVmError, Space, Value};
+use stacks::Depths;
+use value::{JsVmError, Space, Stop, Value};
 
 pub const ROWS: u64 = 8;
 
@@ -22,33 +22,33 @@ fn none() -> Depths
 }
 
 // The depths after an act; an error or a refusal leaves them.
-fn after(d: Depths, m: Made) -> Depths
+fn after(d: Depths, m: Result<Depths, Stop>) -> Depths
     ensures { (w w' : List ℕ) → Ready d w → MadeReady m w w' → Ready result w' }
 {
     match m {
-        Made::Went(e) => e,
-        Made::Failed(_e) => d,
-        Made::Refused(_q) => d,
+        Ok(e) => e,
+        Err(Stop::Failed(_e)) => d,
+        Err(Stop::Refused(_q)) => d,
     }
 }
 
-fn went(m: Made) -> bool {
+fn went(m: Result<Depths, Stop>) -> bool {
     match m {
-        Made::Went(_) => true,
-        Made::Failed(_) => false,
-        Made::Refused(_) => false,
+        Ok(_) => true,
+        Err(Stop::Failed(_)) => false,
+        Err(Stop::Refused(_)) => false,
     }
 }
 
 // Question 16.
-fn overflows(m: Made) -> bool {
+fn overflows(m: Result<Depths, Stop>) -> bool {
     match m {
-        Made::Failed(e) => match e {
+        Err(Stop::Failed(e)) => match e {
             JsVmError::StackOverflow => true,
             _ => false,
         },
-        Made::Went(_) => false,
-        Made::Refused(_) => false,
+        Ok(_) => false,
+        Err(Stop::Refused(_)) => false,
     }
 }
 
@@ -67,11 +67,11 @@ fn question(q: Space) -> u64 {
     }
 }
 
-fn refuses(m: Made, n: u64) -> bool {
+fn refuses(m: Result<Depths, Stop>, n: u64) -> bool {
     match m {
-        Made::Refused(q) => question(q) == n,
-        Made::Went(_) => false,
-        Made::Failed(_) => false,
+        Err(Stop::Refused(q)) => question(q) == n,
+        Ok(_) => false,
+        Err(Stop::Failed(_)) => false,
     }
 }
 
@@ -205,7 +205,7 @@ fn empty_pops(stacks: &mut [u64]) -> bool
     requires { length stacks.old ≡ stack_words }
 {
     let d = operands(stacks, 0);
-    let Popped::Empty = stacks::pop(d, stacks) else {
+    let None = stacks::pop(d, stacks) else {
         return false;
     };
     is_undefined(stacks::top(d, stacks))

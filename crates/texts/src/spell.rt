@@ -10,7 +10,7 @@ ghost use Rattle.texts.specs.Overwrite.{overwrite};
 ghost use Rattle.texts.specs.Spells.{word_text, laid_out, spelling_bytes, Says, Sized, Spells};
 ghost use Rattle.texts.specs.Keeps.{text_limit, Keeps};
 
-use crate::{Kept, Source, TEXT_LIMIT, copy, copy_own, locate, size_of};
+use crate::{Source, TEXT_LIMIT, copy, copy_own, locate, size_of};
 use number::format::{LONGEST_TEXT, Layout};
 use number::{JsNumber, format};
 use value::Value;
@@ -215,7 +215,14 @@ pub fn to_js_string(v: Value, buffer: &mut [u8; LONGEST_TEXT]) -> Source
 }
 
 /// The texts of two values kept as one.
-pub fn keep_joined(code: &[u8], n: usize, text: &mut [u8], m: usize, v: Value, u: Value) -> Kept
+pub fn keep_joined(
+    code: &[u8],
+    n: usize,
+    text: &mut [u8],
+    m: usize,
+    v: Value,
+    u: Value,
+) -> Option<usize>
     requires n_in_bounds { n ≤ length code.now }
     requires m_le_text_limit { (m ≤ text_limit) × (length text.old ≡ text_limit) }
     ensures { Keeps (to_js_string (stores_of code.now n text.old m) (value_of v) ++ to_js_string (stores_of code.now n text.old m) (value_of u)) m text.old result text.new }
@@ -225,19 +232,19 @@ pub fn keep_joined(code: &[u8], n: usize, text: &mut [u8], m: usize, v: Value, u
     let x = spelling_size(n, m, a);
     let y = spelling_size(n, m, b);
     if TEXT_LIMIT - m < x {
-        return Kept::Refused;
+        return None;
     }
     let e = m + x;
     if TEXT_LIMIT - e < y {
-        return Kept::Refused;
+        return None;
     }
     append_spelling(code, n, text, m, a, m);
     append_spelling(code, n, text, m, b, e);
-    Kept::Went(e + y)
+    Some(e + y)
 }
 
 /// The word for a value's type kept.
-pub fn keep_typeof(code: &[u8], n: usize, text: &mut [u8], m: usize, v: Value) -> Kept
+pub fn keep_typeof(code: &[u8], n: usize, text: &mut [u8], m: usize, v: Value) -> Option<usize>
     requires n_in_bounds { n ≤ length code.now }
     requires m_le_text_limit { (m ≤ text_limit) × (length text.old ≡ text_limit) }
     ensures { Keeps (js_typeof (value_of v)) m text.old result text.new }
@@ -245,8 +252,8 @@ pub fn keep_typeof(code: &[u8], n: usize, text: &mut [u8], m: usize, v: Value) -
     let w = type_word(v);
     let size = word_size(w);
     if TEXT_LIMIT - m < size {
-        return Kept::Refused;
+        return None;
     }
     write_word(w, text, m);
-    Kept::Went(m + size)
+    Some(m + size)
 }

@@ -6,4 +6,4 @@ pub returns-in_default : goal.returns-in_default
 returns-in_default c = arithmetic_fails N.or c.pop_numbers.ensures c.in_default.is c.underflow.ensures
 
 pub returns : goal.returns
-returns c = arithmetic N.or c.pop_numbers.ensures c.in-Both.is c.or.ensures c.push_value.ensures
+returns c = arithmetic N.or c.pop_numbers.ensures c.in-Some.is c.or.ensures c.push_value.ensures

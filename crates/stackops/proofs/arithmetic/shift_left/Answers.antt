@@ -6,4 +6,4 @@ pub returns-in_default : goal.returns-in_default
 returns-in_default c = arithmetic_fails N.shift_left c.pop_numbers.ensures c.in_default.is c.underflow.ensures
 
 pub returns : goal.returns
-returns c = arithmetic N.shift_left c.pop_numbers.ensures c.in-Both.is c.shift_left.ensures c.push_value.ensures
+returns c = arithmetic N.shift_left c.pop_numbers.ensures c.in-Some.is c.shift_left.ensures c.push_value.ensures
