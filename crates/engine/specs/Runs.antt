@@ -90,22 +90,22 @@ module _ {c : Counts} {g : Tables} {m : Mem} (e : Lent c g m) where
 
 -- The call, of what is lent
 module _ {c : Counts} {g : Tables} {m : Mem} (i : ℕ) (e : Lent c g m) where
-  module _ (found : ltb i (length (state_in c g m).images) ≡ true) {w : List ℕ} where
-    abbrev Framed : Result Depths Stop → Type 0
-    Framed r = Stacks.Makes (A.push_frame i 0 []) c.depths m.stacks r w
+  abbrev Framed : Result Depths Stop → List ℕ → Type 0
+  Framed r w = Stacks.Makes (A.push_frame i 0 []) c.depths m.stacks r w
 
-    made : {x : Result Depths Stop} → Framed x → out (make (A.push_frame i 0 []) next) (state_in c g m) ≡ Stacks.made_then x next c.depths w (below c m (ground_of c g))
+  module _ (found : ltb i (length (state_in c g m).images) ≡ true) where
+    made : {r : Result Depths Stop} {w : List ℕ} → Framed r w → out (make (A.push_frame i 0 []) next) (state_in c g m) ≡ Stacks.made_then r next c.depths w (below c m (ground_of c g))
     made k = k.goes (below c m (ground_of c g)) next
 
-    same_stacks : w ≡ m.stacks → with_stacks w m ≡ m
+    same_stacks : {w : List ℕ} → w ≡ m.stacks → with_stacks w m ≡ m
     same_stacks q = ap (λ (x : List ℕ). with_stacks x m) q
 
     -- no frame more
-    pub start_refused : (s : Stop) → Framed (Err s) → Called (H.run i) c g m (H.refusal (stop_number s)) c g (with_stacks w m)
+    pub start_refused : (s : Stop) {w : List ℕ} → Framed (Err s) w → Called (H.run i) c g m (H.refusal (stop_number s)) c g (with_stacks w m)
     start_refused (Refused q) k = called_full e (space_of q) (asked i (state_in c g m) found) (made k) refl (same_stacks k.ready)
     start_refused (Failed q) k = called_refused e (same_stacks k.ready) (comes_failed (H.run i) (state_in c g m) (asked i (state_in c g m) found) (error_of q) _ (made k))
 
-    module _ {d : Depths} (k : Framed (Ok d)) where
+    module _ {d : Depths} {w : List ℕ} (k : Framed (Ok d) w) where
       goes : out (make (A.push_frame i 0 []) next) (state_in c g m) ≡ went (state_in (with_depths d c) g (with_stacks w m))
       goes = made k ∙ out_next (state_in (with_depths d c) g (with_stacks w m))
 
