@@ -1,5 +1,5 @@
 -- What C is told of the machine's answers, and what it reads there: number 0 is acceptance. Assumes nothing.
-use Rattle.std.specs.Prelude.{ℕ, zero, suc, ◌-◌, List, [], ◌∷◌, ◌≡◌, refl, length, get_or}
+use Rattle.std.specs.Prelude.{ℕ, zero, suc, ◌-◌, List, [], ◌∷◌, ◌≡◌, refl, length, get_or, Result, Ok, Err}
 use Rattle.std.proofs.Common.{sym, ap, subst, ◌∙◌}
 use Rattle.machine.specs.Value as M
 use Rattle.machine.specs.Error as E
@@ -18,22 +18,17 @@ use Rattle.heapops.specs.Turns.{Mem}
 use Rattle.finish.specs.Parts.{Tables}
 use Rattle.run.specs.Runs.{state_in, result_of}
 use Rattle.host.specs.Calls.{lent, Called, Clears, Buffered, answer_of_numbered, counts_of_numbered, answer_of_changed, counts_of_changed, answer_of_read, answer_of_run, counts_of_run, answer_of_text, answer_of_drain, counts_of_drain}
-use Rattle.host.specs.declared.Changed.{Changed}
-use Rattle.host.specs.declared.Changed.TheVariants.{Done as Changed-as-Done, Refused as Changed-as-Refused}
-use Rattle.host.specs.declared.Numbered.{Numbered}
-use Rattle.host.specs.declared.Numbered.TheVariants.{Done as Numbered-as-Done, Refused as Numbered-as-Refused}
-use Rattle.host.specs.declared.GlobalRead.{GlobalRead}
-use Rattle.host.specs.declared.GlobalRead.TheVariants.{Valued as Read-as-Valued, Refused as Read-as-Refused}
-use Rattle.host.specs.declared.RunAnswer.{RunAnswer}
-use Rattle.host.specs.declared.RunAnswer.TheVariants.{Ran as Run-as-Ran, Refused as Run-as-Refused}
-use Rattle.host.specs.declared.Wrote.{Wrote}
-use Rattle.host.specs.declared.Wrote.TheVariants.{Bytes as Wrote-as-Bytes, Refused as Wrote-as-Refused}
-use Rattle.host.specs.declared.Drained.{Drained}
-use Rattle.host.specs.declared.Drained.TheVariants.{Bytes as Drained-as-Bytes, Refused as Drained-as-Refused}
 use Rattle.answers.specs.declared.Answer.{Answer}
 use Rattle.answers.specs.declared.ValueAnswer.{ValueAnswer}
 use Rattle.answers.specs.declared.RunTold.{RunTold}
-use Rattle.answers.specs.Numbers.{IsSome, never_0}
+use Rattle.answers.specs.Numbers.{never_0}
+use Rattle.host.specs.Refusals.{number_of}
+use Rattle.host.specs.declared.refusal.Refusal.{Refusal}
+use Rattle.host.specs.declared.refusal.Refusal.TheVariants.{StoreSizes}
+use Rattle.run.specs.declared.Ran.{Ran}
+use Rattle.value.specs.declared.Stop.{Stop}
+use Rattle.value.specs.declared.Stop.TheVariants.{Failed, Refused}
+use Rattle.value.specs.declared.JsVmError.TheVariants.{ExecutionLimitExceeded, UnknownOpcode, IpOutOfBounds, StackUnderflow, StackOverflow, UncaughtException, NotCallable, InvalidFunctionId, NoCallFrame}
 
 -- WHAT IS TOLD
 
@@ -118,12 +113,12 @@ changed_by r = by_number r.number H.done
 abbrev pub wrote_by : Answer → List ℕ → H.Answer
 wrote_by r b = by_number r.number (H.wrote (bytes_of b r.amount))
 
--- of clear
-abbrev cleared_as : ℕ → Counts → Changed
-cleared_as zero c = Changed-as-Done c
-cleared_as (suc n) c = Changed-as-Refused (suc n)
+-- of clear, whose only refusal is 33: `only` below rules out any other number
+abbrev cleared_as : ℕ → Counts → Result Counts Refusal
+cleared_as zero c = Ok c
+cleared_as (suc n) c = Err StoreSizes
 
-abbrev pub cleared_by : Answer → Changed
+abbrev pub cleared_by : Answer → Result Counts Refusal
 cleared_by r = cleared_as r.number r.counts
 
 abbrev pub value_by : Words → M.Value
@@ -170,14 +165,14 @@ pub record TellsClear (c : Counts) (g : Tables) (m : Mem) (r : Answer) (g' : Tab
   pub clears : Clears g m (cleared_by r) g' m'
   pub only : r ≡ told (answer_of_changed (cleared_by r)) (counts_of_changed c (cleared_by r))
 
--- What the engine's answers are told as, where a buffer goes with them
-abbrev pub flat_text : Counts → Wrote → Answer
-flat_text c (Wrote-as-Bytes k) = answer 0 k c
-flat_text c (Wrote-as-Refused n) = answer n 0 c
+-- What the engine's answers are told as: an amount with the counts, or alone
+abbrev pub flat : Counts → Result (ℕ × Counts) Refusal → Answer
+flat c (Ok (k, d)) = answer 0 k d
+flat c (Err e) = answer (number_of e) 0 c
 
-abbrev pub flat_drain : Counts → Drained → Answer
-flat_drain c (Drained-as-Bytes k e) = answer 0 k e
-flat_drain c (Drained-as-Refused n) = answer n 0 c
+abbrev pub flat_text : Counts → Result ℕ Refusal → Answer
+flat_text c (Ok k) = answer 0 k c
+flat_text c (Err e) = answer (number_of e) 0 c
 
 -- THE LAWS, one for each shape of answer
 
@@ -197,21 +192,21 @@ module _ {call : H.Call} {c : Counts} {g g' : Tables} {m m' : Mem} where
   refused_told zero a e x = record { called = refused_called zero a x; only = e }
   refused_told (suc n) a e x = record { called = x; only = refl }
 
-  numbered_by_lem : (x : Numbered) → Called call c g m (answer_of_numbered x) (counts_of_numbered c x) g' m'
-      → let r = told (answer_of_numbered x) (counts_of_numbered c x) in Tells call c g m (numbered_by r) r g' m'
-  numbered_by_lem (Numbered-as-Done i e) k = record { called = k; only = refl }
-  numbered_by_lem (Numbered-as-Refused n) k = refused_told n (H.numbered 0) refl k
+  numbered_by_lem : (x : Result (ℕ × Counts) Refusal) → Called call c g m (answer_of_numbered x) (counts_of_numbered c x) g' m'
+      → Tells call c g m (numbered_by (flat c x)) (flat c x) g' m'
+  numbered_by_lem (Ok (i, d)) k = record { called = k; only = refl }
+  numbered_by_lem (Err e) k = refused_told (number_of e) (H.numbered 0) refl k
 
-  pub numbered_told : (x : Numbered) {r : Answer} → r ≡ told (answer_of_numbered x) (counts_of_numbered c x)
+  pub numbered_told : (x : Result (ℕ × Counts) Refusal) {r : Answer} → r ≡ flat c x
       → Called call c g m (answer_of_numbered x) (counts_of_numbered c x) g' m' → Tells call c g m (numbered_by r) r g' m'
   numbered_told x e k = subst (λ (r : Answer). Tells call c g m (numbered_by r) r g' m') (sym e) (numbered_by_lem x k)
 
-  changed_by_lem : (x : Changed) → Called call c g m (answer_of_changed x) (counts_of_changed c x) g' m'
+  changed_by_lem : (x : Result Counts Refusal) → Called call c g m (answer_of_changed x) (counts_of_changed c x) g' m'
       → let r = told (answer_of_changed x) (counts_of_changed c x) in Tells call c g m (changed_by r) r g' m'
-  changed_by_lem (Changed-as-Done e) k = record { called = k; only = refl }
-  changed_by_lem (Changed-as-Refused n) k = refused_told n H.done refl k
+  changed_by_lem (Ok d) k = record { called = k; only = refl }
+  changed_by_lem (Err e) k = refused_told (number_of e) H.done refl k
 
-  pub changed_told : (x : Changed) {r : Answer} → r ≡ told (answer_of_changed x) (counts_of_changed c x)
+  pub changed_told : (x : Result Counts Refusal) {r : Answer} → r ≡ told (answer_of_changed x) (counts_of_changed c x)
       → Called call c g m (answer_of_changed x) (counts_of_changed c x) g' m' → Tells call c g m (changed_by r) r g' m'
   changed_told x e k = subst (λ (r : Answer). Tells call c g m (changed_by r) r g' m') (sym e) (changed_by_lem x k)
 
@@ -235,36 +230,29 @@ module _ {call : H.Call} {c : Counts} {g : Tables} {m : Mem} {b b' : List ℕ} w
   written : (k : ℕ) (e : Counts) → Called call c g m (H.wrote (bytes_of b' k)) e g m × Buffered (H.wrote (bytes_of b' k)) b b' → Writes call c g m b (answer 0 k e) b'
   written k e h = (record { called = h.0; only = ap (λ (n : ℕ). answer 0 n e) (sym (row_length k (λ i. get_or b' i 0))) }, h.1)
 
-  text_by : (x : Wrote) → Called call c g m (answer_of_text x b') c g m × Buffered (answer_of_text x b') b b' → Writes call c g m b (flat_text c x) b'
-  text_by (Wrote-as-Bytes k) h = written k c h
-  text_by (Wrote-as-Refused n) h = wrote_refused n h
+  text_by : (x : Result ℕ Refusal) → Called call c g m (answer_of_text x b') c g m × Buffered (answer_of_text x b') b b' → Writes call c g m b (flat_text c x) b'
+  text_by (Ok k) h = written k c h
+  text_by (Err e) h = wrote_refused (number_of e) h
 
-  pub text_told : (x : Wrote) {r : Answer} → r ≡ flat_text c x → Called call c g m (answer_of_text x b') c g m × Buffered (answer_of_text x b') b b'
+  pub text_told : (x : Result ℕ Refusal) {r : Answer} → r ≡ flat_text c x → Called call c g m (answer_of_text x b') c g m × Buffered (answer_of_text x b') b b'
       → Writes call c g m b r b'
   text_told x e h = subst (λ (r : Answer). Writes call c g m b r b') (sym e) (text_by x h)
 
-  drain_by : (x : Drained) → Called call c g m (answer_of_drain x b') (counts_of_drain c x) g m × Buffered (answer_of_drain x b') b b' → Writes call c g m b (flat_drain c x) b'
-  drain_by (Drained-as-Bytes k e) h = written k e h
-  drain_by (Drained-as-Refused n) h = wrote_refused n h
+  drain_by : (x : Result (ℕ × Counts) Refusal) → Called call c g m (answer_of_drain x b') (counts_of_drain c x) g m × Buffered (answer_of_drain x b') b b' → Writes call c g m b (flat c x) b'
+  drain_by (Ok (k, d)) h = written k d h
+  drain_by (Err e) h = wrote_refused (number_of e) h
 
-  pub drain_told : (x : Drained) {r : Answer} → r ≡ flat_drain c x → Called call c g m (answer_of_drain x b') (counts_of_drain c x) g m × Buffered (answer_of_drain x b') b b'
+  pub drain_told : (x : Result (ℕ × Counts) Refusal) {r : Answer} → r ≡ flat c x → Called call c g m (answer_of_drain x b') (counts_of_drain c x) g m × Buffered (answer_of_drain x b') b b'
       → Writes call c g m b r b'
   drain_told x e h = subst (λ (r : Answer). Writes call c g m b r b') (sym e) (drain_by x h)
 
 -- clear
-some_33 : (n : ℕ) → n ≡ 33 → IsSome n
-some_33 n e = subst IsSome (sym e) tt
-
 module _ (c : Counts) {g g' : Tables} {m m' : Mem} where
-  refused_clear : (n : ℕ) → n ≡ 33 → Clears g m (Changed-as-Refused n) g' m' → TellsClear c g m (answer n 0 c) g' m'
-  refused_clear zero e h = absurd (some_33 0 e)
-  refused_clear (suc n) e h = record { clears = h; only = refl }
+  clear_by : (x : Result Counts Refusal) → Clears g m x g' m' → TellsClear c g m (told (answer_of_changed x) (counts_of_changed c x)) g' m'
+  clear_by (Ok d) h = record { clears = h; only = refl }
+  clear_by (Err e) h = rw h.told.0 (record { clears = rw h.told.0 at h; only = refl })
 
-  clear_by : (x : Changed) → Clears g m x g' m' → TellsClear c g m (told (answer_of_changed x) (counts_of_changed c x)) g' m'
-  clear_by (Changed-as-Done e) h = record { clears = h; only = refl }
-  clear_by (Changed-as-Refused n) h = refused_clear n h.told.0 h
-
-  pub clear_told : (x : Changed) {r : Answer} → r ≡ told (answer_of_changed x) (counts_of_changed c x) → Clears g m x g' m' → TellsClear c g m r g' m'
+  pub clear_told : (x : Result Counts Refusal) {r : Answer} → r ≡ told (answer_of_changed x) (counts_of_changed c x) → Clears g m x g' m' → TellsClear c g m r g' m'
   clear_told x e h = subst (λ (r : Answer). TellsClear c g m r g' m') (sym e) (clear_by x h)
 
 -- a value
@@ -309,11 +297,11 @@ module _ {call : H.Call} {c : Counts} {g : Tables} {m : Mem} where
     only = ap (λ (w : M.Value). told_value (H.valued w)) (sym (value_read v));
   }
 
-  read_by : (x : GlobalRead) → Called call c g m (answer_of_read x) c g m → TellsValue call c g m (told_value (answer_of_read x))
-  read_by (Read-as-Valued v) k = value_by_lem (value_of v) k
-  read_by (Read-as-Refused n) k = refused_value n k
+  read_by : (x : Result Value Refusal) → Called call c g m (answer_of_read x) c g m → TellsValue call c g m (told_value (answer_of_read x))
+  read_by (Ok v) k = value_by_lem (value_of v) k
+  read_by (Err e) k = refused_value (number_of e) k
 
-  pub read_told : (x : GlobalRead) {r : ValueAnswer} → r ≡ told_value (answer_of_read x) → Called call c g m (answer_of_read x) c g m → TellsValue call c g m r
+  pub read_told : (x : Result Value Refusal) {r : ValueAnswer} → r ≡ told_value (answer_of_read x) → Called call c g m (answer_of_read x) c g m → TellsValue call c g m r
   read_told x e k = subst (λ (r : ValueAnswer). TellsValue call c g m r) (sym e) (read_by x k)
 
 -- a run
@@ -349,6 +337,20 @@ result_read (R.full q) = store_read q
 ran_read : (e : R.Result) (k : ℕ) (c : Counts) → ran_by (told_run (H.ran e k) c) ≡ H.ran e k
 ran_read e k c = ap (λ (v : M.Value). H.ran (result_by (R.end_number e) (opcode_of e) v) k) (value_read (R.end_value e)) ∙ ap (λ (z : R.Result). H.ran z k) (result_read e)
 
+-- no other end has a byte
+pub no_opcode : (e : Result Value Stop) → ((b : ℕ) → e ≡ Err (Failed (UnknownOpcode b)) → ⊥) → opcode_of (result_of e) ≡ 0
+no_opcode (Ok v) h = refl
+no_opcode (Err (Refused q)) h = refl
+no_opcode (Err (Failed ExecutionLimitExceeded)) h = refl
+no_opcode (Err (Failed (UnknownOpcode b))) h = absurd (h b refl)
+no_opcode (Err (Failed IpOutOfBounds)) h = refl
+no_opcode (Err (Failed StackUnderflow)) h = refl
+no_opcode (Err (Failed StackOverflow)) h = refl
+no_opcode (Err (Failed (UncaughtException v))) h = refl
+no_opcode (Err (Failed NotCallable)) h = refl
+no_opcode (Err (Failed InvalidFunctionId)) h = refl
+no_opcode (Err (Failed NoCallFrame)) h = refl
+
 -- as the fields are computed
 pub ran_fields : (e : R.Result) (v : Value) {n b k : ℕ} {w : Words} {c : Counts} → n ≡ R.end_number e → b ≡ opcode_of e → value_of v ≡ R.end_value e → w ≡ words_of v
     → ◌≡◌ {A = RunTold} (record { number = n; started = 1; steps = k; opcode = b; value = w; counts = c }) (told_run (H.ran e k) c)
@@ -357,15 +359,15 @@ ran_fields e v {w = w} p q t u =
     rw (p, q, d)
 
 module _ {call : H.Call} {c : Counts} {g : Tables} {m m' : Mem} where
-  run_by : (x : RunAnswer) → Called call c g m (answer_of_run x) (counts_of_run c x) g m' → TellsRun call c g m (told_run (answer_of_run x) (counts_of_run c x)) m'
-  run_by (Run-as-Ran y) h =
+  run_by : (x : Result Ran Refusal) → Called call c g m (answer_of_run x) (counts_of_run c x) g m' → TellsRun call c g m (told_run (answer_of_run x) (counts_of_run c x)) m'
+  run_by (Ok y) h =
       let e = ran_read (result_of y.end) y.steps y.counts in
       record {
         called = subst (λ (a : H.Answer). Called call c g m a y.counts g m') (sym e) h;
         only = ap (λ (a : H.Answer). told_run a y.counts) (sym e);
       }
-  run_by (Run-as-Refused n) h = record { called = h; only = refl }
+  run_by (Err e) h = record { called = h; only = refl }
 
-  pub run_told : (x : RunAnswer) {r : RunTold} → r ≡ told_run (answer_of_run x) (counts_of_run c x) → Called call c g m (answer_of_run x) (counts_of_run c x) g m'
+  pub run_told : (x : Result Ran Refusal) {r : RunTold} → r ≡ told_run (answer_of_run x) (counts_of_run c x) → Called call c g m (answer_of_run x) (counts_of_run c x) g m'
       → TellsRun call c g m r m'
   run_told x e h = subst (λ (r : RunTold). TellsRun call c g m r m') (sym e) (run_by x h)

@@ -1,27 +1,22 @@
 -- What C is told of the image writer's answers, and what the answer reads as there. Assumes nothing.
-use Rattle.std.specs.Prelude.{◌≡◌, refl, Bool, true, false, ◌⊎◌, List, ℕ, zero, suc}
-use Rattle.std.proofs.Common.{sym, subst, inl, inr, arith}
-use Rattle.std.proofs.Math.Option.{some, some-injective}
+use Rattle.std.specs.Prelude.{◌≡◌, refl, List, ℕ, ◌==◌, if◌then◌else◌, Result, Ok, Err}
+use Rattle.std.proofs.Common.{sym, subst}
 use Rattle.machine.specs.Writer as W
-use Rattle.machine.proofs.Writer.{refused_by}
 use Rattle.writer.specs.declared.Writer.{Writer}
-use Rattle.writer.specs.declared.Written.{Written}
-use Rattle.writer.specs.declared.Written.TheVariants.{Wrote, Refused}
-use Rattle.writer.specs.View.{session_of, writer_of, Does}
+use Rattle.writer.specs.declared.WriteError.{WriteError}
+use Rattle.writer.specs.declared.WriteError.TheVariants.{IllFormed, BufferTooShort}
+use Rattle.writer.specs.View.{number_of, Does}
 use Rattle.answers.specs.declared.WriteTold.{WriteTold}
 
-abbrev pub write_told : ℕ → Writer → WriteTold
-write_told n w = record { number = n; writer = w }
+abbrev pub told_write : Writer → Result Writer WriteError → WriteTold
+told_write w (Ok y) = record { number = 0; writer = y }
+told_write w (Err e) = record { number = number_of e; writer = w }
 
-abbrev pub told_write : Writer → Written → WriteTold
-told_write w (Wrote y) = write_told 0 y
-told_write w (Refused n) = write_told n w
+-- The answer of a number and a writer; `only` below rules out a number that is none of these three.
+abbrev written_as : ℕ → Writer → Result Writer WriteError
+written_as n y = if n == 0 then Ok y else if n == 31 then Err BufferTooShort else Err IllFormed
 
-abbrev written_as : ℕ → Writer → Written
-written_as zero y = Wrote y
-written_as (suc n) y = Refused (suc n)
-
-abbrev pub written_by : WriteTold → Written
+abbrev pub written_by : WriteTold → Result Writer WriteError
 written_by r = written_as r.number r.writer
 
 -- THE CONTRACT of an exported call: what is read is the writer's answer, and nothing but that is told.
@@ -29,20 +24,11 @@ pub record TellsWrite (c : W.Call) (w : Writer) (b : List ℕ) (r : WriteTold) (
   pub does : Does c w b (written_by r) b'
   pub only : r ≡ told_write w (written_by r)
 
--- No call is refused with 0, so the number tells.
-no_zero : (n : ℕ) → (n ≡ 34) ⊎ (n ≡ 31) → n ≡ 0 → ⊥
-no_zero n (inl e) z = omega arith
-no_zero n (inr e) z = omega arith
-
-asked_zero : (c : W.Call) (w : Writer) (b : List ℕ) (t : Bool) → W.asked_on t c (session_of w b) ≡ some 0 → ⊥
-asked_zero c w b true e = no_zero 0 (refused_by c (session_of w b) 0 e) refl
-asked_zero c w b false e = no_zero 34 (inl refl) (some-injective 34 0 e)
-
 module _ {c : W.Call} {w : Writer} {b b' : List ℕ} where
-  by : (x : Written) → Does c w b x b' → TellsWrite c w b (told_write w x) b'
-  by (Wrote y) d = record { does = d; only = refl }
-  by (Refused zero) d = absurd (asked_zero c w b (W.in_place c (writer_of w)) (sym d.said))
-  by (Refused (suc n)) d = record { does = d; only = refl }
+  by : (x : Result Writer WriteError) → Does c w b x b' → TellsWrite c w b (told_write w x) b'
+  by (Ok y) d = record { does = d; only = refl }
+  by (Err IllFormed) d = record { does = d; only = refl }
+  by (Err BufferTooShort) d = record { does = d; only = refl }
 
-  pub write_told_lem : (x : Written) {r : WriteTold} → r ≡ told_write w x → Does c w b x b' → TellsWrite c w b r b'
+  pub write_told_lem : (x : Result Writer WriteError) {r : WriteTold} → r ≡ told_write w x → Does c w b x b' → TellsWrite c w b r b'
   write_told_lem x e d = subst (λ (r : WriteTold). TellsWrite c w b r b') (sym e) (by x d)

@@ -3,18 +3,16 @@
 
 ghost use Rattle.std.specs.Prelude.{◌≡◌};
 ghost use Rattle.machine.specs.Host as Host;
-ghost use Rattle.value.specs.Errors.{error_of};
-ghost use Rattle.value.specs.Words.{value_of};
 ghost use Rattle.run.specs.Runs.{result_of};
-ghost use Rattle.host.specs.Calls.{answer_of_numbered, counts_of_numbered, answer_of_changed, counts_of_changed, answer_of_read, answer_of_run, counts_of_run};
-ghost use Rattle.answers.specs.Flat.{answer, told, told_value, told_run, flat_text, flat_drain, error_opcode, opcode_of, value_by};
-ghost use Rattle.answers.specs.Written.{write_told, told_write};
+ghost use Rattle.host.specs.Calls.{answer_of_changed, counts_of_changed, answer_of_read, answer_of_run, counts_of_run};
+ghost use Rattle.answers.specs.Flat.{told, told_value, told_run, flat, flat_text, opcode_of};
+ghost use Rattle.answers.specs.Written.{told_write};
 
 use heapops::Counts;
-use host::{Changed, Drained, GlobalRead, Numbered, RunAnswer, Wrote};
-use run::{Ending, Ran};
-use value::{JsVmError, Value, Words};
-use writer::{Writer, Written};
+use host::Refusal;
+use run::Ran;
+use value::{JsVmError, Stop, Value, Words};
+use writer::{WriteError, Writer};
 
 // A call's number, 0 where it was accepted; an image's number or the bytes written; and what is in use then.
 #[repr(C)]
@@ -53,154 +51,105 @@ pub struct WriteTold {
     pub writer: Writer,
 }
 
-// A value that C gives, by its words.
-pub fn decoded(w: Words) -> Value
-    ensures { value_of result ≡ value_by w }
-{
-    value::decode(w.kind, w.first, w.second)
-}
-
-pub fn changed(counts: Counts, x: Changed) -> Answer
-    ensures { result ≡ told (answer_of_changed x) (counts_of_changed counts x) }
+// Of a call that answers an amount with the counts: an image's number, a function's, or the bytes that were drained.
+pub fn answered(counts: Counts, x: Result<(usize, Counts), Refusal>) -> Answer
+    ensures { result ≡ flat counts x }
 {
     match x {
-        Changed::Done(c) => accepted(0, c),
-        Changed::Refused(n) => refused(n, counts),
-    }
-}
-
-pub fn numbered(counts: Counts, x: Numbered) -> Answer
-    ensures { result ≡ told (answer_of_numbered x) (counts_of_numbered counts x) }
-{
-    match x {
-        Numbered::Done(i, c) => accepted(i, c),
-        Numbered::Refused(n) => refused(n, counts),
-    }
-}
-
-pub fn wrote(counts: Counts, x: Wrote) -> Answer
-    ensures { result ≡ flat_text counts x }
-{
-    match x {
-        Wrote::Bytes(n) => accepted(n, counts),
-        Wrote::Refused(n) => refused(n, counts),
-    }
-}
-
-pub fn drained(counts: Counts, x: Drained) -> Answer
-    ensures { result ≡ flat_drain counts x }
-{
-    match x {
-        Drained::Bytes(n, c) => accepted(n, c),
-        Drained::Refused(n) => refused(n, counts),
-    }
-}
-
-fn accepted(amount: usize, counts: Counts) -> Answer
-    ensures { result ≡ answer 0 amount counts }
-{
-    Answer {
-        number: 0,
-        amount,
-        counts,
-    }
-}
-
-fn refused(n: u64, counts: Counts) -> Answer
-    ensures { result ≡ answer n 0 counts }
-{
-    Answer {
-        number: n,
-        amount: 0,
-        counts,
-    }
-}
-
-pub fn valued(x: GlobalRead) -> ValueAnswer
-    ensures { result ≡ told_value (answer_of_read x) }
-{
-    match x {
-        GlobalRead::Valued(v) => ValueAnswer {
+        Ok((amount, kept)) => Answer {
             number: 0,
-            value: value::encode(v),
+            amount,
+            counts: kept,
         },
-        GlobalRead::Refused(n) => ValueAnswer {
-            number: n,
-            value: value::encode(Value::Undefined),
-        },
-    }
-}
-
-pub fn ran(counts: Counts, x: RunAnswer) -> RunTold
-    ensures { result ≡ told_run (answer_of_run x) (counts_of_run counts x) }
-{
-    match x {
-        RunAnswer::Ran(r) => started(r),
-        RunAnswer::Refused(n) => RunTold {
-            number: n,
-            started: 0,
-            steps: 0,
-            opcode: 0,
-            value: value::encode(Value::Undefined),
+        Err(refusal) => Answer {
+            number: u64::from(refusal),
+            amount: 0,
             counts,
         },
     }
 }
 
-fn started(x: Ran) -> RunTold
-    ensures { result ≡ told_run (Host.ran (result_of x.end) x.steps) x.counts }
+// Of one that answers the counts alone.
+pub fn changed(counts: Counts, x: Result<Counts, Refusal>) -> Answer
+    ensures { result ≡ told (answer_of_changed x) (counts_of_changed counts x) }
 {
-    let e = x.end;
-    let counts = x.counts;
-    let v = run::end_value(e);
+    answered(counts, x.map(|c| (0, c)))
+}
+
+// Of one that changes no count, and answers the bytes that it wrote.
+pub fn wrote(counts: Counts, x: Result<usize, Refusal>) -> Answer
+    ensures { result ≡ flat_text counts x }
+{
+    match x {
+        Ok(n) => answered(counts, Ok((n, counts))),
+        Err(e) => answered(counts, Err(e)),
+    }
+}
+
+impl From<Result<Value, Refusal>> for ValueAnswer {
+    ghost from_gives = { λ x r. r ≡ told_value (answer_of_read x) };
+
+    fn from(x: Result<Value, Refusal>) -> ValueAnswer {
+        match x {
+            Ok(v) => ValueAnswer {
+                number: 0,
+                value: Words::from(v),
+            },
+            Err(e) => ValueAnswer {
+                number: u64::from(e),
+                value: Words::from(Value::Undefined),
+            },
+        }
+    }
+}
+
+pub fn ran(counts: Counts, x: Result<Ran, Refusal>) -> RunTold
+    ensures { result ≡ told_run (answer_of_run x) (counts_of_run counts x) }
+{
+    match x {
+        Ok(r) => started(r),
+        Err(e) => RunTold {
+            number: u64::from(e),
+            started: 0,
+            steps: 0,
+            opcode: 0,
+            value: Words::from(Value::Undefined),
+            counts,
+        },
+    }
+}
+
+fn started(r: Ran) -> RunTold
+    ensures { result ≡ told_run (Host.ran (result_of r.end) r.steps) r.counts }
+{
     RunTold {
-        number: run::end_number(e),
+        number: run::end_number(r.end),
         started: 1,
-        steps: x.steps,
-        opcode: opcode_in(e),
-        value: value::encode(v),
-        counts,
+        steps: r.steps,
+        opcode: opcode_of(r.end),
+        value: Words::from(run::end_value(r.end)),
+        counts: r.counts,
     }
 }
 
 // The byte of error 13.
-fn opcode_in(e: Ending) -> u64
-    ensures { result ≡ opcode_of (result_of e) }
+fn opcode_of(end: Result<Value, Stop>) -> u64
+    ensures { result ≡ opcode_of (result_of end) }
 {
-    match e {
-        Ending::Finished(_) => 0,
-        Ending::Failed(q) => opcode_of(q),
-        Ending::Full(_) => 0,
+    match end {
+        Err(Stop::Failed(JsVmError::UnknownOpcode(byte))) => u64::from(byte),
+        _ => 0,
     }
 }
 
-fn opcode_of(e: JsVmError) -> u64
-    ensures { result ≡ error_opcode (error_of e) }
-{
-    match e {
-        JsVmError::UnknownOpcode(b) => b as u64,
-        JsVmError::ExecutionLimitExceeded => 0,
-        JsVmError::IpOutOfBounds => 0,
-        JsVmError::StackUnderflow => 0,
-        JsVmError::StackOverflow => 0,
-        JsVmError::UncaughtException(_) => 0,
-        JsVmError::NotCallable => 0,
-        JsVmError::InvalidFunctionId => 0,
-        JsVmError::NoCallFrame => 0,
-    }
-}
-
-pub fn written(w: Writer, x: Written) -> WriteTold
+pub fn written(w: Writer, x: Result<Writer, WriteError>) -> WriteTold
     ensures { result ≡ told_write w x }
 {
     match x {
-        Written::Wrote(y) => write_told(0, y),
-        Written::Refused(n) => write_told(n, w),
+        Ok(writer) => WriteTold { number: 0, writer },
+        Err(error) => WriteTold {
+            number: u64::from(error),
+            writer: w,
+        },
     }
-}
-
-fn write_told(number: u64, writer: Writer) -> WriteTold
-    ensures { result ≡ write_told number writer }
-{
-    WriteTold { number, writer }
 }

@@ -1,7 +1,7 @@
 -- An array made: its elements, then its length, each a property more. Assumes nothing.
-use Rattle.std.specs.Prelude.{◌≡◌, ℕ, zero, suc, ◌+◌, ◌-◌, ◌*◌, ◌<◌, ◌≤◌, true, List, [], ◌∷◌, length, refl}
+use Rattle.std.specs.Prelude.{◌≡◌, ℕ, zero, suc, ◌+◌, ◌-◌, ◌*◌, ◌<◌, ◌≤◌, true, List, [], ◌∷◌, length, refl, Option, Ok, Err}
 use native.Mathlib.Omega.{arith}
-use Rattle.std.proofs.Math.Option.{Option, none, some}
+use Rattle.std.proofs.Math.Option.{Option as Maybe, none, some}
 use Rattle.std.proofs.Common.{sym, subst, ◌∙◌, le-leb}
 use Rattle.std.proofs.Math.Path.{ap}
 use Rattle.std.proofs.lemmas.Bool.{lt-leb}
@@ -27,7 +27,6 @@ use Rattle.heap.specs.Layout.{object_limit, property_limit, properties_at, objec
 use Rattle.heap.specs.View.{Sized, Gives, kind_at, property_of, row_at, set_row}
 use Rattle.heap.specs.Laws.{with_properties}
 use Rattle.heap.specs.declared.Sizes.{Sizes}
-use Rattle.objects.specs.declared.Placed.TheVariants.{Went, Refused}
 use Rattle.objects.specs.View.{on_stores, Puts, Lays}
 use Rattle.objects.specs.Puts.{property_laid, property_sized}
 use Rattle.arrays.specs.Keys.{keys_size, keys_none, keys_more, keys_sum}
@@ -151,7 +150,7 @@ module _ (z : Sizes) (w : List ℕ) (m : ℕ) (t : List ℕ) (good : Sized z w) 
   abbrev keys : A.Need
   keys = A.need St.text_store (keys_size 0 count)
 
-  asked : (s : St.State) (o : Option St.Store) → Asked (on_stores z w m t s) (object ∷ rows ∷ keys ∷ []) o → Asked (on_stores z w m t s) (A.needs (A.add_array elements) (on_stores z w m t s)) o
+  asked : (s : St.State) (o : Maybe St.Store) → Asked (on_stores z w m t s) (object ∷ rows ∷ keys ∷ []) o → Asked (on_stores z w m t s) (A.needs (A.add_array elements) (on_stores z w m t s)) o
   asked s o k =
       let e : A.needs (A.add_array elements) (on_stores z w m t s) ≡ object ∷ rows ∷ keys ∷ [] =
       ap (λ (x : ℕ). object ∷ A.need St.property_store (x + 1) ∷ A.need St.text_store (sum_of (λ kv. length kv.0) (A.elements 0 elements)) ∷ []) length_elements
@@ -174,21 +173,21 @@ module _ (z : Sizes) (w : List ℕ) (m : ℕ) (t : List ℕ) (good : Sized z w) 
     rows_fit : z.properties + count < property_limit → fits (on_stores z w m t s) rows ≡ true
     rows_fit l = rw used_properties (le-leb (z.properties + (count + 1)) property_limit (omega arith))
 
-  pub array_no_object : object_limit ≤ z.objects → Puts (A.add_array elements) z w m t (Refused Objects) w t
+  pub array_no_object : object_limit ≤ z.objects → Puts (A.add_array elements) z w m t (Err Objects) w t
   array_no_object l = record {
     goes = λ s p. out_refused (on_stores z w m t s) (A.add_array elements) p St.object_store refl
         (asked s (some St.object_store) (Asked.no (rw (used_objects s) (lt-leb (z.objects + 1) object_limit (omega arith)))));
     ready = (refl, refl);
   }
 
-  pub array_no_rows : z.objects < object_limit → property_limit ≤ z.properties + count → Puts (A.add_array elements) z w m t (Refused Properties) w t
+  pub array_no_rows : z.objects < object_limit → property_limit ≤ z.properties + count → Puts (A.add_array elements) z w m t (Err Properties) w t
   array_no_rows l k = record {
     goes = λ s p. out_refused (on_stores z w m t s) (A.add_array elements) p St.property_store refl
         (asked s (some St.property_store) (Asked.yes (object_fits s l) (Asked.no (rw (used_properties s) (lt-leb (z.properties + (count + 1)) property_limit (omega arith))))));
     ready = (refl, refl);
   }
 
-  pub array_no_text : z.objects < object_limit → z.properties + count < property_limit → text_limit < m + keys_size 0 count → Puts (A.add_array elements) z w m t (Refused Text) w t
+  pub array_no_text : z.objects < object_limit → z.properties + count < property_limit → text_limit < m + keys_size 0 count → Puts (A.add_array elements) z w m t (Err Text) w t
   array_no_text l k x = record {
     goes = λ s p. out_refused (on_stores z w m t s) (A.add_array elements) p St.text_store refl
         (asked s (some St.text_store) (Asked.yes (object_fits s l) (Asked.yes (rows_fit s k) (Asked.no (rw (used_text s) (lt-leb (m + keys_size 0 count) text_limit x))))));
@@ -198,7 +197,7 @@ module _ (z : Sizes) (w : List ℕ) (m : ℕ) (t : List ℕ) (good : Sized z w) 
   pub array_made : (y : Sizes) (w₁ : List ℕ) (e : ℕ) (w₂ t₂ : List ℕ) (bits : ℕ) (e₃ : ℕ) (w₃ t₃ : List ℕ) → z.objects < object_limit → z.properties + count < property_limit → m + keys_size 0 count ≤ text_limit
       → Gives (A.add_kind St.array) z w y w₁ → Laying z.objects (given argc f) count y w₁ m t count e w₂ t₂ → bits ≡ N.whole count
       → Lays w₂ (properties_at + 6 * (y.properties + count)) z.objects length_key (Number bits) e t₂ e₃ w₃ t₃
-      → Puts (A.add_array elements) z w m t (Went (with_properties (y.properties + count + 1) y) e₃) w₃ t₃
+      → Puts (A.add_array elements) z w m t (Ok ((with_properties (y.properties + count + 1) y), e₃)) w₃ t₃
   array_made y w₁ e w₂ t₂ bits e₃ w₃ t₃ l k x gives laid whole lay = record {
     goes = λ s p.
         out_make (on_stores z w m t s) (A.add_array elements) p refl

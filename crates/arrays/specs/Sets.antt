@@ -1,7 +1,7 @@
 -- A store into a property of any value: `set_property` of 000. Assumes nothing.
-use Rattle.std.specs.Prelude.{◌≡◌, ℕ, ◌+◌, ◌-◌, ◌*◌, ◌<◌, ◌≤◌, Bool, true, false, ltb, List, length, take, drop, nat_lt, slice_index, refl}
+use Rattle.std.specs.Prelude.{◌≡◌, ℕ, ◌+◌, ◌-◌, ◌*◌, ◌<◌, ◌≤◌, Bool, true, false, ltb, List, length, take, drop, nat_lt, slice_index, refl, Option, Some, None, Result, Ok, Err}
 use Rattle.std.proofs.Common.{arith, sym, ap, subst, ◌∙◌, lt-ltb, le-ltb}
-use Rattle.std.proofs.Math.Option.{Option}
+use Rattle.std.proofs.Math.Option.{Option as Maybe}
 use Rattle.std.proofs.Math.ListN.{get_elem?}
 use Rattle.std.specs.Prelude.{if◌then◌else◌}
 use Rattle.machine.specs.Number as N
@@ -28,8 +28,6 @@ use Rattle.texts.specs.declared.Part.{Part}
 use Rattle.texts.specs.declared.Source.{Source}
 use Rattle.texts.specs.declared.Source.TheVariants.{Code, Text as Text-as-Source, Buffer}
 use Rattle.convert.specs.Keys.{key_of}
-use Rattle.convert.specs.declared.Key.{Key}
-use Rattle.convert.specs.declared.Key.TheVariants.{Index, Name}
 use Rattle.heap.specs.Layout.{property_limit, properties_at, globals_at}
 use Rattle.heap.specs.View.{Sized, on_heap, objects_of, properties_of, kind_in, property_of, row_at, set_row}
 use Rattle.heap.specs.Rows.{Finds, finds_ext}
@@ -37,97 +35,94 @@ use Rattle.heap.specs.Tables.{table_kept, set_row_apart}
 use Rattle.heap.specs.Finds.{pair_at, property_at, property_none}
 use Rattle.heap.specs.Laws.{with_properties, in_properties, apart_wider}
 use Rattle.heap.specs.declared.Sizes.{Sizes}
-use Rattle.heap.specs.declared.Found.{Found}
-use Rattle.heap.specs.declared.Found.TheVariants.{At, Nothing}
 use Rattle.heap.specs.declared.ObjectType.{ObjectType}
 use Rattle.heap.specs.declared.ObjectType.TheVariants.{Ordinary, Array, NoObject}
-use Rattle.objects.specs.declared.Placed.{Placed}
-use Rattle.objects.specs.declared.Placed.TheVariants.{Went, Refused}
 use Rattle.objects.specs.View.{on_stores, placed_then, PlacedReady, Puts, Lays}
 use Rattle.objects.specs.Puts.{property_there, property_full, property_long, property_new}
+use Rattle.value.specs.declared.Space.{Space}
 
 -- What an answer leaves: a refusal may alter words and bytes above those in use, and nothing else.
-abbrev pub Leaves : Sizes → List ℕ → ℕ → List ℕ → Placed → List ℕ → List ℕ → Type 0
-Leaves z w m t (Went y e) w' t' = Sized y w' × (e ≤ text_limit)
-Leaves z w m t (Refused q) w' t' = ((s : St.State) → on_stores z w' m t' s ≡ on_stores z w m t s) × Sized z w'
+abbrev pub Leaves : Sizes → List ℕ → ℕ → List ℕ → Result (Sizes × ℕ) Space → List ℕ → List ℕ → Type 0
+Leaves z w m t (Ok (y, e)) w' t' = Sized y w' × (e ≤ text_limit)
+Leaves z w m t (Err q) w' t' = ((s : St.State) → on_stores z w' m t' s ≡ on_stores z w m t s) × Sized z w'
 
-leaves : (z : Sizes) (w : List ℕ) (m : ℕ) (t : List ℕ) (x : Placed) (w' t' : List ℕ) → Sized z w → PlacedReady x w t w' t' → Leaves z w m t x w' t'
-leaves z w m t (Went y e) w' t' good r = r
-leaves z w m t (Refused q) w' t' good r =
+leaves : (z : Sizes) (w : List ℕ) (m : ℕ) (t : List ℕ) (x : Result (Sizes × ℕ) Space) (w' t' : List ℕ) → Sized z w → PlacedReady x w t w' t' → Leaves z w m t x w' t'
+leaves z w m t (Ok (y, e)) w' t' good r = r
+leaves z w m t (Err q) w' t' good r =
     (λ s. ap (λ (u : List ℕ). on_stores z u m t' s) r.0 ∙ ap (λ (u : List ℕ). on_stores z w m u s) r.1, subst (λ (u : List ℕ). Sized z u) (sym r.0) good)
 
 -- The contract of a program that ends in `next`: as that of an act.
-pub record Runs (f : St.State → Program) (z : Sizes) (w : List ℕ) (m : ℕ) (t : List ℕ) (r : Placed) (w' t' : List ℕ) : Type 0 where
+pub record Runs (f : St.State → Program) (z : Sizes) (w : List ℕ) (m : ℕ) (t : List ℕ) (r : Result (Sizes × ℕ) Space) (w' t' : List ℕ) : Type 0 where
   pub goes : (s : St.State) → out (f (on_stores z w m t s)) (on_stores z w m t s) ≡ placed_then r next w' t' s
   pub ready : Leaves z w m t r w' t'
 
-abbrev pub Sets : M.Value → List ℕ → M.Value → Sizes → List ℕ → ℕ → List ℕ → Placed → List ℕ → List ℕ → Type 0
+abbrev pub Sets : M.Value → List ℕ → M.Value → Sizes → List ℕ → ℕ → List ℕ → Result (Sizes × ℕ) Space → List ℕ → List ℕ → Type 0
 Sets o k v z w m t r w' t' = Runs (λ s. I.set_property o k v) z w m t r w' t'
 
 -- into an array
-abbrev pub SetsIn : ℕ → List ℕ → M.Value → Sizes → List ℕ → ℕ → List ℕ → Placed → List ℕ → List ℕ → Type 0
+abbrev pub SetsIn : ℕ → List ℕ → M.Value → Sizes → List ℕ → ℕ → List ℕ → Result (Sizes × ℕ) Space → List ℕ → List ℕ → Type 0
 SetsIn o k v z w m t r w' t' = Runs (λ s. I.stretch s o (array_key k) (make (A.put_property o k v) next)) z w m t r w' t'
 
 -- at or above its length: first the length, then the key
-abbrev pub Stretches : ℕ → ℕ → List ℕ → M.Value → Sizes → List ℕ → ℕ → List ℕ → Placed → List ℕ → List ℕ → Type 0
+abbrev pub Stretches : ℕ → ℕ → List ℕ → M.Value → Sizes → List ℕ → ℕ → List ℕ → Result (Sizes × ℕ) Space → List ℕ → List ℕ → Type 0
 Stretches o i k v z w m t r w' t' = Runs (λ s. make (A.put_property o length_key (M.number (N.whole (i + 1)))) (make (A.put_property o k v) next)) z w m t r w' t'
 
 -- where nothing is done
-pub sets_nothing : (o : M.Value) (k : List ℕ) (v : M.Value) (z : Sizes) (w : List ℕ) (m : ℕ) (t : List ℕ) → I.set_property o k v ≡ next → Sized z w → m ≤ text_limit → Sets o k v z w m t (Went z m) w t
+pub sets_nothing : (o : M.Value) (k : List ℕ) (v : M.Value) (z : Sizes) (w : List ℕ) (m : ℕ) (t : List ℕ) → I.set_property o k v ≡ next → Sized z w → m ≤ text_limit → Sets o k v z w m t (Ok (z, m)) w t
 sets_nothing o k v z w m t e good h = record { goes = λ s. ap (λ (p : Program). out p (on_stores z w m t s)) e; ready = (good, h) }
 
 module _ (z : Sizes) (w : List ℕ) (m : ℕ) (t : List ℕ) (o : ℕ) (k : List ℕ) (v : M.Value) (r : ObjectType) (kind : kind_in r ≡ get_elem? (objects_of w z.objects) o) where
   as_kind : (s : St.State) (y : ObjectType) → r ≡ y → out (I.set_property (M.object o) k v) (on_stores z w m t s) ≡ out (I.set_in (on_stores z w m t s) o (kind_in y) k v) (on_stores z w m t s)
   as_kind s y e =
       out_look (on_stores z w m t s) (λ s. I.set_in s o (get_elem? s.objects o) k v)
-      ∙ ap (λ (x : Option St.Kind). out (I.set_in (on_stores z w m t s) o x k v) (on_stores z w m t s)) (sym (ap kind_in (sym e) ∙ kind))
+      ∙ ap (λ (x : Maybe St.Kind). out (I.set_in (on_stores z w m t s) o x k v) (on_stores z w m t s)) (sym (ap kind_in (sym e) ∙ kind))
 
-  pub sets_unknown : r ≡ NoObject → Sized z w → m ≤ text_limit → Sets (M.object o) k v z w m t (Went z m) w t
+  pub sets_unknown : r ≡ NoObject → Sized z w → m ≤ text_limit → Sets (M.object o) k v z w m t (Ok (z, m)) w t
   sets_unknown e good h = record { goes = λ s. as_kind s NoObject e; ready = (good, h) }
 
-  pub sets_ordinary : (x : Placed) (w' t' : List ℕ) → r ≡ Ordinary → Sized z w → Puts (A.put_property o k v) z w m t x w' t' → Sets (M.object o) k v z w m t x w' t'
+  pub sets_ordinary : (x : Result (Sizes × ℕ) Space) (w' t' : List ℕ) → r ≡ Ordinary → Sized z w → Puts (A.put_property o k v) z w m t x w' t' → Sets (M.object o) k v z w m t x w' t'
   sets_ordinary x w' t' e good p = record { goes = λ s. as_kind s Ordinary e ∙ p.goes s next; ready = leaves z w m t x w' t' good p.ready }
 
-  pub sets_array : (x : Placed) (w' t' : List ℕ) → r ≡ Array → SetsIn o k v z w m t x w' t' → Sets (M.object o) k v z w m t x w' t'
+  pub sets_array : (x : Result (Sizes × ℕ) Space) (w' t' : List ℕ) → r ≡ Array → SetsIn o k v z w m t x w' t' → Sets (M.object o) k v z w m t x w' t'
   sets_array x w' t' e p = record { goes = λ s. as_kind s Array e ∙ p.goes s; ready = p.ready }
 
 -- Into an array
 abbrev stretched : Bool → ℕ → ℕ → Program → Program
 stretched b o i p = if b then p else make (A.put_property o length_key (M.number (N.whole (i + 1)))) p
 
-module _ (z : Sizes) (w : List ℕ) (m : ℕ) (t : List ℕ) (o : ℕ) (k : List ℕ) (v : M.Value) (r : Key) (key : key_of r ≡ array_key k) where
+module _ (z : Sizes) (w : List ℕ) (m : ℕ) (t : List ℕ) (o : ℕ) (k : List ℕ) (v : M.Value) (r : Option ℕ) (key : key_of r ≡ array_key k) where
   abbrev puts : Program
   puts = make (A.put_property o k v) next
 
-  as_key : (s : St.State) (y : Key) → r ≡ y → out (I.stretch s o (array_key k) puts) s ≡ out (I.stretch s o (key_of y) puts) s
-  as_key s y e = ap (λ (x : Option ℕ). out (I.stretch s o x puts) s) (sym (ap key_of (sym e) ∙ key))
+  as_key : (s : St.State) (y : Option ℕ) → r ≡ y → out (I.stretch s o (array_key k) puts) s ≡ out (I.stretch s o (key_of y) puts) s
+  as_key s y e = ap (λ (x : Maybe ℕ). out (I.stretch s o x puts) s) (sym (ap key_of (sym e) ∙ key))
 
-  pub array_name : (x : Placed) (w' t' : List ℕ) → r ≡ Name → Sized z w → Puts (A.put_property o k v) z w m t x w' t' → SetsIn o k v z w m t x w' t'
-  array_name x w' t' e good p = record { goes = λ s. as_key (on_stores z w m t s) Name e ∙ p.goes s next; ready = leaves z w m t x w' t' good p.ready }
+  pub array_name : (x : Result (Sizes × ℕ) Space) (w' t' : List ℕ) → r ≡ None → Sized z w → Puts (A.put_property o k v) z w m t x w' t' → SetsIn o k v z w m t x w' t'
+  array_name x w' t' e good p = record { goes = λ s. as_key (on_stores z w m t s) None e ∙ p.goes s next; ready = leaves z w m t x w' t' good p.ready }
 
-  module _ (i : ℕ) (index : r ≡ Index i) (q : Found) (f : Finds (pair_at (bytes_of t m) w o length_key) z.properties q) where
+  module _ (i : ℕ) (index : r ≡ Some i) (q : Option ℕ) (f : Finds (pair_at (bytes_of t m) w o length_key) z.properties q) where
     -- an array that no act made may have none: its floor is 0
-    pub array_missing : (x : Placed) (w' t' : List ℕ) → q ≡ Nothing → Stretches o i k v z w m t x w' t' → SetsIn o k v z w m t x w' t'
+    pub array_missing : (x : Result (Sizes × ℕ) Space) (w' t' : List ℕ) → q ≡ None → Stretches o i k v z w m t x w' t' → SetsIn o k v z w m t x w' t'
     array_missing x w' t' e p = record {
       goes = λ s.
           let own : M.undefined ≡ St.property (on_stores z w m t s) o length_key = property_none (bytes_of t m) w o length_key z.properties q f s.code e in
-          as_key (on_stores z w m t s) (Index i) index
+          as_key (on_stores z w m t s) (Some i) index
           ∙ ap (λ (x : Bool). out (stretched x o i puts) (on_stores z w m t s)) (ap (λ (x : M.Value). nat_lt i (length_floor x)) (sym own) ∙ le-ltb i 0 (omega arith))
           ∙ p.goes s;
       ready = p.ready;
     }
 
-    module _ (j : ℕ) (at : q ≡ At j) (l : Value) (length_is : value_of l ≡ value_at w (properties_at + 6 * j + 3)) (floor : ℕ) (floor-is : floor ≡ length_floor (value_of l)) where
+    module _ (j : ℕ) (at : q ≡ Some j) (l : Value) (length_is : value_of l ≡ value_at w (properties_at + 6 * j + 3)) (floor : ℕ) (floor-is : floor ≡ length_floor (value_of l)) where
       as_floor : (s : St.State) (b : Bool) → nat_lt i floor ≡ b → out (I.stretch (on_stores z w m t s) o (array_key k) puts) (on_stores z w m t s) ≡ out (stretched b o i puts) (on_stores z w m t s)
       as_floor s b e =
           let own : value_of l ≡ St.property (on_stores z w m t s) o length_key = property_at (bytes_of t m) w o length_key z.properties q f s.code j l at length_is in
-          as_key (on_stores z w m t s) (Index i) index
+          as_key (on_stores z w m t s) (Some i) index
           ∙ ap (λ (x : Bool). out (stretched x o i puts) (on_stores z w m t s)) (ap (λ (x : ℕ). ltb i x) (sym (floor-is ∙ ap length_floor own)) ∙ e)
 
-      pub array_below : (x : Placed) (w' t' : List ℕ) → i < floor → Sized z w → Puts (A.put_property o k v) z w m t x w' t' → SetsIn o k v z w m t x w' t'
+      pub array_below : (x : Result (Sizes × ℕ) Space) (w' t' : List ℕ) → i < floor → Sized z w → Puts (A.put_property o k v) z w m t x w' t' → SetsIn o k v z w m t x w' t'
       array_below x w' t' h good p = record { goes = λ s. as_floor s true (lt-ltb i floor h) ∙ p.goes s next; ready = leaves z w m t x w' t' good p.ready }
 
-      pub array_beyond : (x : Placed) (w' t' : List ℕ) → floor ≤ i → Stretches o i k v z w m t x w' t' → SetsIn o k v z w m t x w' t'
+      pub array_beyond : (x : Result (Sizes × ℕ) Space) (w' t' : List ℕ) → floor ≤ i → Stretches o i k v z w m t x w' t' → SetsIn o k v z w m t x w' t'
       array_beyond x w' t' h p = record { goes = λ s. as_floor s false (le-ltb i floor h) ∙ p.goes s; ready = p.ready }
 
 -- a new value of a row leaves every row's owner and key
@@ -140,13 +135,13 @@ pair_kept t w o k j v i =
 
 -- An array with its length: it is changed, then the key put. The questions are asked before the first write.
 module _ (z : Sizes) (w : List ℕ) (m : ℕ) (t : List ℕ) (good : Sized z w) (h : m ≤ text_limit) (long : length t ≡ text_limit) (o i : ℕ) (k : List ℕ) (v : Value)
-    (j : ℕ) (f : Finds (pair_at (bytes_of t m) w o length_key) z.properties (At j)) (bits : ℕ) (whole : bits ≡ N.whole (N.wrap (i + 1)))
-    (q : Found) (g : Finds (pair_at (bytes_of t m) w o k) z.properties q) where
+    (j : ℕ) (f : Finds (pair_at (bytes_of t m) w o length_key) z.properties (Some j)) (bits : ℕ) (whole : bits ≡ N.whole (N.wrap (i + 1)))
+    (q : Option ℕ) (g : Finds (pair_at (bytes_of t m) w o k) z.properties q) where
   abbrev w₁ : List ℕ
   w₁ = set_value w (properties_at + 6 * j + 3) (Number bits)
 
-  first : Puts (A.put_property o length_key (M.number bits)) z w m t (Went z m) w₁ t
-  first = property_there z w m t good h long o length_key (At j) f (Number bits) j w₁ refl refl
+  first : Puts (A.put_property o length_key (M.number bits)) z w m t (Ok (z, m)) w₁ t
+  first = property_there z w m t good h long o length_key (Some j) f (Number bits) j w₁ refl refl
 
   sized : Sized z w₁
   sized = first.ready.0
@@ -154,29 +149,29 @@ module _ (z : Sizes) (w : List ℕ) (m : ℕ) (t : List ℕ) (good : Sized z w) 
   found : Finds (pair_at (bytes_of t m) w₁ o k) z.properties q
   found = finds_ext (pair_kept (bytes_of t m) w o k j (Number bits)) g
 
-  both : (x : Placed) (w' t' : List ℕ) → Puts (A.put_property o k (value_of v)) z w₁ m t x w' t' → (s : St.State)
+  both : (x : Result (Sizes × ℕ) Space) (w' t' : List ℕ) → Puts (A.put_property o k (value_of v)) z w₁ m t x w' t' → (s : St.State)
       → out (make (A.put_property o length_key (M.number (N.whole (i + 1)))) (make (A.put_property o k (value_of v)) next)) (on_stores z w m t s) ≡ placed_then x next w' t' s
   both x w' t' p s =
       ap (λ (u : ℕ). out (make (A.put_property o length_key (M.number u)) (make (A.put_property o k (value_of v)) next)) (on_stores z w m t s)) (sym (whole ∙ whole_wrap (i + 1)))
       ∙ first.goes s (make (A.put_property o k (value_of v)) next) ∙ p.goes s next
 
-  pub stretched_there : (p : ℕ) (w₂ w' : List ℕ) → q ≡ At p → w₂ ≡ w₁ → w' ≡ set_value w₂ (properties_at + 6 * p + 3) v → Stretches o i k (value_of v) z w m t (Went z m) w' t
+  pub stretched_there : (p : ℕ) (w₂ w' : List ℕ) → q ≡ Some p → w₂ ≡ w₁ → w' ≡ set_value w₂ (properties_at + 6 * p + 3) v → Stretches o i k (value_of v) z w m t (Ok (z, m)) w' t
   stretched_there p w₂ w' e c d =
       let y = property_there z w₁ m t sized h long o k q found v p w' e (d ∙ ap (λ (x : List ℕ). set_value x (properties_at + 6 * p + 3) v) c) in
-      record { goes = both (Went z m) w' t y; ready = y.ready }
+      record { goes = both (Ok (z, m)) w' t y; ready = y.ready }
 
-  pub stretched_full : q ≡ Nothing → property_limit ≤ z.properties → Stretches o i k (value_of v) z w m t (Refused Properties) w t
-  stretched_full e l = record { goes = both (Refused Properties) w₁ t (property_full z w₁ m t sized h long o k q found v e l); ready = (λ s. refl, good) }
+  pub stretched_full : q ≡ None → property_limit ≤ z.properties → Stretches o i k (value_of v) z w m t (Err Properties) w t
+  stretched_full e l = record { goes = both (Err Properties) w₁ t (property_full z w₁ m t sized h long o k q found v e l); ready = (λ s. refl, good) }
 
-  pub stretched_long : q ≡ Nothing → z.properties < property_limit → text_limit < m + length k → Stretches o i k (value_of v) z w m t (Refused Text) w t
-  stretched_long e l d = record { goes = both (Refused Text) w₁ t (property_long z w₁ m t sized h long o k q found v e l d); ready = (λ s. refl, good) }
+  pub stretched_long : q ≡ None → z.properties < property_limit → text_limit < m + length k → Stretches o i k (value_of v) z w m t (Err Text) w t
+  stretched_long e l d = record { goes = both (Err Text) w₁ t (property_long z w₁ m t sized h long o k q found v e l d); ready = (λ s. refl, good) }
 
-  pub stretched_new : (e : ℕ) (w₂ w' t' : List ℕ) → q ≡ Nothing → z.properties < property_limit → m + length k ≤ text_limit → w₂ ≡ w₁
-      → Lays w₂ (properties_at + 6 * z.properties) o k v m t e w' t' → Stretches o i k (value_of v) z w m t (Went (with_properties (z.properties + 1) z) e) w' t'
+  pub stretched_new : (e : ℕ) (w₂ w' t' : List ℕ) → q ≡ None → z.properties < property_limit → m + length k ≤ text_limit → w₂ ≡ w₁
+      → Lays w₂ (properties_at + 6 * z.properties) o k v m t e w' t' → Stretches o i k (value_of v) z w m t (Ok ((with_properties (z.properties + 1) z), e)) w' t'
   stretched_new e w₂ w' t' n l d c lay =
       let own : Lays w₁ (properties_at + 6 * z.properties) o k v m t e w' t' = subst (λ (x : List ℕ). Lays x (properties_at + 6 * z.properties) o k v m t e w' t') c lay in
       let y = property_new z w₁ m t sized h long o k q found v n e w' t' l d own in
-      record { goes = both (Went (with_properties (z.properties + 1) z) e) w' t' y; ready = y.ready }
+      record { goes = both (Ok ((with_properties (z.properties + 1) z), e)) w' t' y; ready = y.ready }
 
 -- A source that names the same bytes when text is added
 pub record Settles (m : ℕ) (key r : Source) : Type 0 where
@@ -199,24 +194,24 @@ settles_buffer m key size q = rw q (record { bytes = λ c t t₁ b n e h f. refl
 
 -- An array without its length: it is added, and then the key put into what that gives.
 module _ (z : Sizes) (w : List ℕ) (m : ℕ) (t : List ℕ) (good : Sized z w) (h : m ≤ text_limit) (long : length t ≡ text_limit) (o i : ℕ) (k : List ℕ) (v : M.Value)
-    (q : Found) (f : Finds (pair_at (bytes_of t m) w o length_key) z.properties q) (none : q ≡ Nothing) (bits : ℕ) (whole : bits ≡ N.whole (N.wrap (i + 1))) where
-  after : (x : Placed) (w' t' : List ℕ) → Puts (A.put_property o length_key (M.number bits)) z w m t x w' t' → (s : St.State)
+    (q : Option ℕ) (f : Finds (pair_at (bytes_of t m) w o length_key) z.properties q) (none : q ≡ None) (bits : ℕ) (whole : bits ≡ N.whole (N.wrap (i + 1))) where
+  after : (x : Result (Sizes × ℕ) Space) (w' t' : List ℕ) → Puts (A.put_property o length_key (M.number bits)) z w m t x w' t' → (s : St.State)
       → out (make (A.put_property o length_key (M.number (N.whole (i + 1)))) (make (A.put_property o k v) next)) (on_stores z w m t s) ≡ placed_then x (make (A.put_property o k v) next) w' t' s
   after x w' t' p s =
       ap (λ (u : ℕ). out (make (A.put_property o length_key (M.number u)) (make (A.put_property o k v) next)) (on_stores z w m t s)) (sym (whole ∙ whole_wrap (i + 1)))
       ∙ p.goes s (make (A.put_property o k v) next)
 
-  pub missing_full : property_limit ≤ z.properties → Stretches o i k v z w m t (Refused Properties) w t
-  missing_full l = record { goes = after (Refused Properties) w t (property_full z w m t good h long o length_key q f (Number bits) none l); ready = (λ s. refl, good) }
+  pub missing_full : property_limit ≤ z.properties → Stretches o i k v z w m t (Err Properties) w t
+  missing_full l = record { goes = after (Err Properties) w t (property_full z w m t good h long o length_key q f (Number bits) none l); ready = (λ s. refl, good) }
 
-  pub missing_long : z.properties < property_limit → text_limit < m + 6 → Stretches o i k v z w m t (Refused Text) w t
-  missing_long l d = record { goes = after (Refused Text) w t (property_long z w m t good h long o length_key q f (Number bits) none l d); ready = (λ s. refl, good) }
+  pub missing_long : z.properties < property_limit → text_limit < m + 6 → Stretches o i k v z w m t (Err Text) w t
+  missing_long l d = record { goes = after (Err Text) w t (property_long z w m t good h long o length_key q f (Number bits) none l d); ready = (λ s. refl, good) }
 
   module _ (e : ℕ) (w₁ t₁ : List ℕ) (l : z.properties < property_limit) (d : m + 6 ≤ text_limit) (lay : Lays w (properties_at + 6 * z.properties) o length_key (Number bits) m t e w₁ t₁) where
     abbrev y : Sizes
     y = with_properties (z.properties + 1) z
 
-    added : Puts (A.put_property o length_key (M.number bits)) z w m t (Went y e) w₁ t₁
+    added : Puts (A.put_property o length_key (M.number bits)) z w m t (Ok (y, e)) w₁ t₁
     added = property_new z w m t good h long o length_key q f (Number bits) none e w₁ t₁ l d lay
 
     pub missing_ready : Sized y w₁ × (e ≤ text_limit)
@@ -238,15 +233,15 @@ module _ (z : Sizes) (w : List ℕ) (m : ℕ) (t : List ℕ) (good : Sized z w) 
     missing_settled c b n key own g p =
         g.bytes c t t₁ b n e (omega (arith, lay.count)) (λ j r. ap (λ (u : List ℕ). slice_index u j) lay.text ∙ overwrite_below t m length_key (omega (arith, long)) j r) ∙ sym p
 
-    pub missing_put : (x : Placed) (w₂ t₂ : List ℕ) (k' : List ℕ) → k' ≡ k → Puts (A.put_property o k' v) y w₁ e t₁ x w₂ t₂ → Stretches o i k v z w m t x w₂ t₂
+    pub missing_put : (x : Result (Sizes × ℕ) Space) (w₂ t₂ : List ℕ) (k' : List ℕ) → k' ≡ k → Puts (A.put_property o k' v) y w₁ e t₁ x w₂ t₂ → Stretches o i k v z w m t x w₂ t₂
     missing_put x w₂ t₂ k' same p = record {
-      goes = λ s. after (Went y e) w₁ t₁ added s ∙ ap (λ (u : List ℕ). out (make (A.put_property o u v) next) (on_stores y w₁ e t₁ s)) (sym same) ∙ p.goes s next;
+      goes = λ s. after (Ok (y, e)) w₁ t₁ added s ∙ ap (λ (u : List ℕ). out (make (A.put_property o u v) next) (on_stores y w₁ e t₁ s)) (sym same) ∙ p.goes s next;
       ready = left x p.ready;
     }
       where
-        left : (x : Placed) → PlacedReady x w₁ t₁ w₂ t₂ → Leaves z w m t x w₂ t₂
-        left (Went a b) r = r
-        left (Refused u) r = (
+        left : (x : Result (Sizes × ℕ) Space) → PlacedReady x w₁ t₁ w₂ t₂ → Leaves z w m t x w₂ t₂
+        left (Ok (a, b)) r = r
+        left (Err u) r = (
           λ s. ap (λ (g : List ℕ). on_stores z g m t₂ s) r.0 ∙ ap (λ (g : List ℕ). on_stores z w₁ m g s) r.1 ∙ below s,
           record { functions = good.functions; objects = good.objects; properties = good.properties; globals = good.globals; size = ap length r.0 ∙ added.ready.0.size },
         )

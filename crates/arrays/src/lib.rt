@@ -10,7 +10,6 @@ ghost use Rattle.convert.specs.Keys.{key_of};
 ghost use Rattle.texts.specs.Sources.{stores_of, source_bytes};
 ghost use Rattle.heap.specs.Rows.{Finds};
 ghost use Rattle.heap.specs.Finds.{pair_at};
-ghost use Rattle.heap.specs.declared.Found.TheVariants.{At, Nothing};
 ghost use Rattle.arrays.specs.Sets.{Sets, SetsIn, Stretches, Settles};
 ghost use Rattle.machine.specs.Instruction.{exactly};
 ghost use Rattle.machine.specs.Number.{decimal};
@@ -27,11 +26,9 @@ ghost use Rattle.objects.specs.View.{Puts, Lays};
 ghost use Rattle.arrays.specs.Keys.{keys_size};
 ghost use Rattle.arrays.specs.Arrays.{given, Laying};
 
-use convert::Key;
-use heap::{Found, OBJECT_LIMIT, ObjectType, PROPERTIES_AT, PROPERTY_LIMIT, Sizes};
+use heap::{OBJECT_LIMIT, ObjectType, PROPERTIES_AT, PROPERTY_LIMIT, Sizes};
+use number::JsNumber;
 use number::format::LONGEST_TEXT;
-use number::{JsNumber, format};
-use objects::Placed;
 use texts::{Source, TEXT_LIMIT};
 use value::{Space, Value};
 
@@ -100,7 +97,7 @@ fn lay_element(
     ensures { Lays heap.old k id (decimal i) v e text.old result heap.new text.new }
 {
     let l = JsNumber::js_int(i as u64).layout();
-    let end = format::write(l, text, e);
+    let end = l.write(text, e);
     heap::write_row(heap, k, id, e as u64, (end - e) as u64, v);
     end
 }
@@ -143,20 +140,20 @@ pub fn add_array(
     from: usize,
     argc: usize,
     count: usize,
-) -> Placed
+) -> Result<(Sizes, usize), Space>
     requires sized { Sized z heap.old }
     requires m_le_text_limit { (m ≤ text_limit) × (length text.old ≡ text_limit) }
     requires argc_bound { (from + argc ≤ operand_limit) × (length stacks.now ≡ stack_words) }
     ensures { Puts (add_array (exactly count (arguments stacks.now from argc))) z heap.old m text.old result heap.new text.new }
 {
     if OBJECT_LIMIT <= z.objects {
-        return Placed::Refused(Space::Objects);
+        return Err(Space::Objects);
     }
     if PROPERTY_LIMIT - z.properties <= count {
-        return Placed::Refused(Space::Properties);
+        return Err(Space::Properties);
     }
     if TEXT_LIMIT - m < keys_size(count) {
-        return Placed::Refused(Space::Text);
+        return Err(Space::Text);
     }
     let id = z.objects as u64;
     let y = heap::add_kind(z, heap, 1);
@@ -178,11 +175,18 @@ pub fn add_array(
     );
     let mut more = y;
     more.properties = y.properties + count + 1;
-    Placed::Went(more, end)
+    Ok((more, end))
 }
 
 // Is a key the number of an element? (By the place of the key, as in `find_key`.)
-fn key_index(code: &[u8], n: usize, text: &[u8], m: usize, buffer: &[u8], key: Source) -> Key
+fn key_index(
+    code: &[u8],
+    n: usize,
+    text: &[u8],
+    m: usize,
+    buffer: &[u8],
+    key: Source,
+) -> Option<u64>
     requires { (n ≤ length code.now) × (m ≤ length text.now) }
     ensures { key_of result ≡ array_key (source_bytes (stores_of code.now n text.now m) buffer.now key) }
 {
@@ -223,32 +227,32 @@ fn stretch(
     v: Value,
     j: usize,
     i: u64,
-) -> Placed
+) -> Result<(Sizes, usize), Space>
     requires sized { Sized z heap.old }
     requires n_in_bounds { (n ≤ length code.now) × (m ≤ text_limit) × (length text.old ≡ text_limit) }
-    requires finds { Finds (pair_at (bytes_of text.old m) heap.old id length_key) z.properties (At j) }
+    requires finds { Finds (pair_at (bytes_of text.old m) heap.old id length_key) z.properties (Some j) }
     ensures { Stretches id i (source_bytes (stores_of code.now n text.old m) buffer.now key) (value_of v) z heap.old m text.old result heap.new text.new }
 {
     let count = z.properties;
     let length = JsNumber::js_int(std::num::wrapping_add_u64(i, 1));
     let long = Value::Number(length.bits);
-    let Found::At(p) = objects::find_key(heap, count, code, n, text, m, buffer, id, key) else {
+    let Some(p) = objects::find_key(heap, count, code, n, text, m, buffer, id, key) else {
         if PROPERTY_LIMIT <= count {
-            return Placed::Refused(Space::Properties);
+            return Err(Space::Properties);
         }
         if TEXT_LIMIT - m < texts::size_of(n, m, buffer.len(), key) {
-            return Placed::Refused(Space::Text);
+            return Err(Space::Text);
         }
         value::write(heap, PROPERTIES_AT + 6 * j + 3, long);
         let k = PROPERTIES_AT + 6 * count;
         let e = objects::lay_row(heap, k, code, n, text, m, buffer, id, key, v);
         let mut more = z;
         more.properties = count + 1;
-        return Placed::Went(more, e);
+        return Ok((more, e));
     };
     value::write(heap, PROPERTIES_AT + 6 * j + 3, long);
     value::write(heap, PROPERTIES_AT + 6 * p + 3, v);
-    Placed::Went(z, m)
+    Ok((z, m))
 }
 
 // A key that names the same bytes when text is added behind the m bytes in use.
@@ -280,18 +284,18 @@ fn stretch_bare(
     key: Source,
     v: Value,
     i: u64,
-) -> Placed
+) -> Result<(Sizes, usize), Space>
     requires sized { Sized z heap.old }
     requires n_in_bounds { (n ≤ length code.now) × (m ≤ text_limit) × (length text.old ≡ text_limit) }
-    requires finds { Finds (pair_at (bytes_of text.old m) heap.old id length_key) z.properties Nothing }
+    requires finds { Finds (pair_at (bytes_of text.old m) heap.old id length_key) z.properties None }
     ensures { Stretches id i (source_bytes (stores_of code.now n text.old m) buffer.now key) (value_of v) z heap.old m text.old result heap.new text.new }
 {
     let count = z.properties;
     if PROPERTY_LIMIT <= count {
-        return Placed::Refused(Space::Properties);
+        return Err(Space::Properties);
     }
     if TEXT_LIMIT - m < 6 {
-        return Placed::Refused(Space::Text);
+        return Err(Space::Text);
     }
     let length = JsNumber::js_int(std::num::wrapping_add_u64(i, 1));
     let long = Value::Number(length.bits);
@@ -326,16 +330,16 @@ fn set_element(
     id: u64,
     key: Source,
     v: Value,
-) -> Placed
+) -> Result<(Sizes, usize), Space>
     requires sized { Sized z heap.old }
     requires n_in_bounds { (n ≤ length code.now) × (m ≤ text_limit) × (length text.old ≡ text_limit) }
     ensures { SetsIn id (source_bytes (stores_of code.now n text.old m) buffer.now key) (value_of v) z heap.old m text.old result heap.new text.new }
 {
-    let Key::Index(i) = key_index(code, n, text, m, buffer, key) else {
+    let Some(i) = key_index(code, n, text, m, buffer, key) else {
         return objects::put_property(z, heap, code, n, text, m, buffer, id, key, v);
     };
     let count = z.properties;
-    let Found::At(j) = heap::find_property(text, m, heap, count, id, b"length") else {
+    let Some(j) = heap::find_property(text, m, heap, count, id, b"length") else {
         return stretch_bare(z, heap, code, n, text, m, buffer, id, key, v, i);
     };
     let length = value::read(heap, PROPERTIES_AT + 6 * j + 3);
@@ -357,13 +361,13 @@ fn set_object(
     id: u64,
     key: Source,
     v: Value,
-) -> Placed
+) -> Result<(Sizes, usize), Space>
     requires sized { Sized z heap.old }
     requires n_in_bounds { (n ≤ length code.now) × (m ≤ text_limit) × (length text.old ≡ text_limit) }
     ensures { Sets (object id) (source_bytes (stores_of code.now n text.old m) buffer.now key) (value_of v) z heap.old m text.old result heap.new text.new }
 {
     match heap::object_type(z, heap, id) {
-        ObjectType::NoObject => Placed::Went(z, m),
+        ObjectType::NoObject => Ok((z, m)),
         ObjectType::Ordinary => objects::put_property(
             z, heap, code, n, text, m, buffer, id, key, v,
         ),
@@ -383,19 +387,19 @@ pub fn set_property(
     target: Value,
     key: Source,
     v: Value,
-) -> Placed
+) -> Result<(Sizes, usize), Space>
     requires sized { Sized z heap.old }
     requires n_in_bounds { (n ≤ length code.now) × (m ≤ text_limit) × (length text.old ≡ text_limit) }
     ensures { Sets (value_of target) (source_bytes (stores_of code.now n text.old m) buffer.now key) (value_of v) z heap.old m text.old result heap.new text.new }
 {
     match target {
-        Value::Undefined => Placed::Went(z, m),
-        Value::Null => Placed::Went(z, m),
-        Value::Boolean(_) => Placed::Went(z, m),
-        Value::Number(_) => Placed::Went(z, m),
-        Value::CodeText(_, _) => Placed::Went(z, m),
-        Value::MadeText(_, _) => Placed::Went(z, m),
+        Value::Undefined => Ok((z, m)),
+        Value::Null => Ok((z, m)),
+        Value::Boolean(_) => Ok((z, m)),
+        Value::Number(_) => Ok((z, m)),
+        Value::CodeText(_, _) => Ok((z, m)),
+        Value::MadeText(_, _) => Ok((z, m)),
         Value::Object(id) => set_object(z, heap, code, n, text, m, buffer, id, key, v),
-        Value::Function(_) => Placed::Went(z, m),
+        Value::Function(_) => Ok((z, m)),
     }
 }

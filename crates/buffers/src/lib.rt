@@ -2,18 +2,34 @@
 #![tactic(auto)]
 
 ghost use Rattle.std.specs.Prelude.{length};
-ghost use Rattle.machine.specs.Act.{plain, as_bytes};
 ghost use Rattle.machine.specs.Host as Host;
-ghost use Rattle.value.specs.Words.{value_of};
+ghost use Rattle.texts.specs.Sources.{InUse, stores_of};
+ghost use Rattle.texts.specs.Spells.{Writes};
 ghost use Rattle.heapops.specs.Turns.{mem};
 ghost use Rattle.finish.specs.Parts.{tables};
 ghost use Rattle.host.specs.Calls.{Called, Buffered, answer_of_text, answer_of_drain, counts_of_drain};
+ghost use Rattle.host.specs.Givens.{given_of};
 
 use heapops::Counts;
-use host::questions::{handle_fine, is_ascii, lent};
-use host::{Drained, Wrote};
-use number::format::Formatted;
-use value::Value;
+use host::{Given, Refusal, questions};
+use texts::output::{write_bytes, write_text};
+
+fn write<'a>(
+    code: &'a [u8],
+    n: usize,
+    text: &'a [u8],
+    m: usize,
+    given: Given,
+    buffer: &mut [u8],
+) -> Option<usize>
+    requires { InUse code.now n text.now m }
+    ensures { Writes (Host.given_text (stores_of code.now n text.now m) (given_of given.entry)) buffer.old result buffer.new }
+{
+    match given {
+        Given::Plain(v) => write_text(code, n, text, m, v, buffer),
+        Given::Bytes(bytes) => write_bytes(bytes, buffer),
+    }
+}
 
 pub fn text_of<'a>(
     code: &'a [u8],
@@ -25,51 +41,16 @@ pub fn text_of<'a>(
     text: &'a [u8],
     output: &[u8],
     c: Counts,
-    v: Value,
+    given: Given,
     buffer: &mut [u8],
-) -> Wrote
-    ensures called { Called (Host.text (plain (value_of v)) (length buffer.old)) c (tables code.now places.now rows.now starts.now) (mem stacks.now heap.now text.now output.now) (answer_of_text result buffer.new) c (tables code.now places.now rows.now starts.now) (mem stacks.now heap.now text.now output.now) }
+) -> Result<usize, Refusal>
+    ensures called { Called (Host.text (given_of given.entry) (length buffer.old)) c (tables code.now places.now rows.now starts.now) (mem stacks.now heap.now text.now output.now) (answer_of_text result buffer.new) c (tables code.now places.now rows.now starts.now) (mem stacks.now heap.now text.now output.now) }
     ensures buffered { Buffered (answer_of_text result buffer.new) buffer.old buffer.new }
 {
-    if lent(code, places, rows, starts, stacks, heap, text, output, c) {
-        if handle_fine(code, c.code, text, c.text, v) {
-            match texts::output::write_text(code, c.code, text, c.text, v, buffer) {
-                Formatted::Bytes(n) => return Wrote::Bytes(n),
-                Formatted::TooShort => return Wrote::Refused(31),
-            }
-        }
-        return Wrote::Refused(30);
-    }
-    Wrote::Refused(33)
-}
-
-// The text call of a text that the host gives as bytes.
-pub fn text_of_bytes(
-    code: &[u8],
-    places: &[u16],
-    rows: &[u16],
-    starts: &[u16],
-    stacks: &[u64],
-    heap: &[u64],
-    text: &[u8],
-    output: &[u8],
-    c: Counts,
-    given: &[u8],
-    buffer: &mut [u8],
-) -> Wrote
-    ensures called { Called (Host.text (as_bytes given.now) (length buffer.old)) c (tables code.now places.now rows.now starts.now) (mem stacks.now heap.now text.now output.now) (answer_of_text result buffer.new) c (tables code.now places.now rows.now starts.now) (mem stacks.now heap.now text.now output.now) }
-    ensures buffered { Buffered (answer_of_text result buffer.new) buffer.old buffer.new }
-{
-    if lent(code, places, rows, starts, stacks, heap, text, output, c) {
-        if is_ascii(given) {
-            match texts::output::write_bytes(given, buffer) {
-                Formatted::Bytes(k) => return Wrote::Bytes(k),
-                Formatted::TooShort => return Wrote::Refused(31),
-            }
-        }
-        return Wrote::Refused(29);
-    }
-    Wrote::Refused(33)
+    questions::lent(code, places, rows, starts, stacks, heap, text, output, c)?;
+    given.ascii()?;
+    given.handle(code, c.code, text, c.text)?;
+    write(code, c.code, text, c.text, given, buffer).ok_or(Refusal::BufferTooShort)
 }
 
 pub fn drain(
@@ -83,20 +64,11 @@ pub fn drain(
     output: &[u8],
     c: Counts,
     buffer: &mut [u8],
-) -> Drained
+) -> Result<(usize, Counts), Refusal>
     ensures called { Called (Host.drain (length buffer.old)) c (tables code.now places.now rows.now starts.now) (mem stacks.now heap.now text.now output.now) (answer_of_drain result buffer.new) (counts_of_drain c result) (tables code.now places.now rows.now starts.now) (mem stacks.now heap.now text.now output.now) }
     ensures buffered { Buffered (answer_of_drain result buffer.new) buffer.old buffer.new }
 {
-    if lent(code, places, rows, starts, stacks, heap, text, output, c) {
-        let n = c.output;
-        match texts::output::write_bytes(&output[..n], buffer) {
-            Formatted::TooShort => return Drained::Refused(31),
-            Formatted::Bytes(k) => {
-                let mut e = c;
-                e.output = 0;
-                return Drained::Bytes(k, e);
-            }
-        }
-    }
-    Drained::Refused(33)
+    questions::lent(code, places, rows, starts, stacks, heap, text, output, c)?;
+    let size = write_bytes(&output[..c.output], buffer).ok_or(Refusal::BufferTooShort)?;
+    Ok((size, Counts { output: 0, ..c }))
 }

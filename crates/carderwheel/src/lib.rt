@@ -10,10 +10,9 @@ ghost use Rattle.finish.specs.Parts.{tables};
 ghost use Rattle.host.specs.Calls.{Buffered};
 ghost use Rattle.answers.specs.Flat.{Tells, TellsValue, TellsRun, TellsClear, numbered_by, changed_by, wrote_by, value_by};
 
-use answers::{
-    Answer, RunTold, ValueAnswer, changed, decoded, drained, numbered, ran, valued, wrote,
-};
+use answers::{Answer, RunTold, ValueAnswer, answered, changed, ran, wrote};
 use heapops::Counts;
+use host::Given;
 use value::Words;
 
 mod opcode;
@@ -55,7 +54,7 @@ pub extern "C" fn carderwheel_load_in(
     let x = engine::images::load(
         code, places, rows, starts, stacks, heap, text, output, counts, image,
     );
-    numbered(counts, x)
+    answered(counts, x)
 }
 
 #[unsafe(no_mangle)]
@@ -77,7 +76,7 @@ pub extern "C" fn carderwheel_register_in(
     let x = engine::images::register(
         code, places, rows, starts, stacks, heap, text, output, counts, image, template,
     );
-    numbered(counts, x)
+    answered(counts, x)
 }
 
 #[unsafe(no_mangle)]
@@ -96,9 +95,9 @@ pub extern "C" fn carderwheel_set_global_in(
 ) -> Answer
     ensures { Tells (Host.set_global name.now (plain (value_by value))) counts (tables code.now places.now rows.now starts.now) (mem stacks.now heap.old text.old output.now) (changed_by result) result (tables code.now places.now rows.now starts.now) (mem stacks.now heap.new text.new output.now) }
 {
-    let v = decoded(value);
+    let given = Given::from(value);
     let x = globals::set_global(
-        code, places, rows, starts, stacks, heap, text, output, counts, name, v,
+        code, places, rows, starts, stacks, heap, text, output, counts, name, given,
     );
     changed(counts, x)
 }
@@ -119,7 +118,8 @@ pub extern "C" fn carderwheel_set_global_text_in(
 ) -> Answer
     ensures { Tells (Host.set_global name.now (as_bytes given.now)) counts (tables code.now places.now rows.now starts.now) (mem stacks.now heap.old text.old output.now) (changed_by result) result (tables code.now places.now rows.now starts.now) (mem stacks.now heap.new text.new output.now) }
 {
-    let x = globals::set_global_text(
+    let given = Given::from(given);
+    let x = globals::set_global(
         code, places, rows, starts, stacks, heap, text, output, counts, name, given,
     );
     changed(counts, x)
@@ -140,10 +140,9 @@ pub extern "C" fn carderwheel_read_global_in(
 ) -> ValueAnswer
     ensures { TellsValue (Host.read_global name.now) counts (tables code.now places.now rows.now starts.now) (mem stacks.now heap.now text.now output.now) result }
 {
-    let x = globals::read_global(
+    ValueAnswer::from(globals::read_global(
         code, places, rows, starts, stacks, heap, text, output, counts, name,
-    );
-    valued(x)
+    ))
 }
 
 #[unsafe(no_mangle)]
@@ -184,9 +183,9 @@ pub extern "C" fn carderwheel_text_in<'a>(
     ensures tells { Tells (Host.text (plain (value_by value)) (length buffer.old)) counts (tables code.now places.now rows.now starts.now) (mem stacks.now heap.now text.now output.now) (wrote_by result buffer.new) result (tables code.now places.now rows.now starts.now) (mem stacks.now heap.now text.now output.now) }
     ensures buffered { Buffered (wrote_by result buffer.new) buffer.old buffer.new }
 {
-    let v = decoded(value);
+    let given = Given::from(value);
     let x = buffers::text_of(
-        code, places, rows, starts, stacks, heap, text, output, counts, v, buffer,
+        code, places, rows, starts, stacks, heap, text, output, counts, given, buffer,
     );
     wrote(counts, x)
 }
@@ -208,7 +207,8 @@ pub extern "C" fn carderwheel_text_bytes_in(
     ensures tells { Tells (Host.text (as_bytes given.now) (length buffer.old)) counts (tables code.now places.now rows.now starts.now) (mem stacks.now heap.now text.now output.now) (wrote_by result buffer.new) result (tables code.now places.now rows.now starts.now) (mem stacks.now heap.now text.now output.now) }
     ensures buffered { Buffered (wrote_by result buffer.new) buffer.old buffer.new }
 {
-    let x = buffers::text_of_bytes(
+    let given = Given::from(given);
+    let x = buffers::text_of(
         code, places, rows, starts, stacks, heap, text, output, counts, given, buffer,
     );
     wrote(counts, x)
@@ -233,5 +233,5 @@ pub extern "C" fn carderwheel_drain_in(
     let x = buffers::drain(
         code, places, rows, starts, stacks, heap, text, output, counts, buffer,
     );
-    drained(counts, x)
+    answered(counts, x)
 }

@@ -12,8 +12,7 @@ use writer::Writer;
 pub extern "C" fn carderwheel_write_begin_in(buffer: &mut [u8], w: Writer) -> WriteTold
     ensures { TellsWrite W.begin w buffer.old result buffer.new }
 {
-    let x = writer::begin(buffer);
-    written(w, x)
+    written(w, Writer::begin(buffer))
 }
 
 #[unsafe(no_mangle)]
@@ -25,26 +24,24 @@ pub extern "C" fn carderwheel_write_template_in(
 ) -> WriteTold
     ensures { TellsWrite (W.template parameters locals) w buffer.old result buffer.new }
 {
-    let x = writer::template(w, buffer, parameters, locals);
-    written(w, x)
+    written(w, w.template(buffer, parameters, locals))
 }
 
 #[unsafe(no_mangle)]
 pub extern "C" fn carderwheel_write_number_in(buffer: &mut [u8], w: Writer, bits: u64) -> WriteTold
     ensures { TellsWrite (W.constant (F.number bits)) w buffer.old result buffer.new }
 {
-    let x = writer::number(w, buffer, bits);
-    written(w, x)
+    written(w, w.number(buffer, bits))
 }
 
 #[unsafe(no_mangle)]
 pub extern "C" fn carderwheel_write_text_in(buffer: &mut [u8], w: Writer, bytes: &[u8]) -> WriteTold
     ensures { TellsWrite (W.constant (F.text bytes.now)) w buffer.old result buffer.new }
 {
-    let x = writer::text(w, buffer, bytes);
-    written(w, x)
+    written(w, w.text(buffer, bytes))
 }
 
+// A boolean that C gives: 0 is false, anything else true.
 #[unsafe(no_mangle)]
 pub extern "C" fn carderwheel_write_boolean_in(
     buffer: &mut [u8],
@@ -53,24 +50,21 @@ pub extern "C" fn carderwheel_write_boolean_in(
 ) -> WriteTold
     ensures { TellsWrite (W.constant (F.boolean (truth value))) w buffer.old result buffer.new }
 {
-    let x = writer::boolean(w, buffer, truthful(value));
-    written(w, x)
+    written(w, w.boolean(buffer, value != 0))
 }
 
 #[unsafe(no_mangle)]
 pub extern "C" fn carderwheel_write_null_in(buffer: &mut [u8], w: Writer) -> WriteTold
     ensures { TellsWrite (W.constant F.null) w buffer.old result buffer.new }
 {
-    let x = writer::null(w, buffer);
-    written(w, x)
+    written(w, w.null(buffer))
 }
 
 #[unsafe(no_mangle)]
 pub extern "C" fn carderwheel_write_undefined_in(buffer: &mut [u8], w: Writer) -> WriteTold
     ensures { TellsWrite (W.constant F.undefined) w buffer.old result buffer.new }
 {
-    let x = writer::undefined(w, buffer);
-    written(w, x)
+    written(w, w.undefined(buffer))
 }
 
 #[unsafe(no_mangle)]
@@ -81,32 +75,19 @@ pub extern "C" fn carderwheel_write_function_in(
 ) -> WriteTold
     ensures { TellsWrite (W.constant (F.function template)) w buffer.old result buffer.new }
 {
-    let x = writer::function(w, buffer, template);
-    written(w, x)
+    written(w, w.function(buffer, template))
 }
 
 #[unsafe(no_mangle)]
 pub extern "C" fn carderwheel_write_code_in(buffer: &mut [u8], w: Writer, bytes: &[u8]) -> WriteTold
     ensures { TellsWrite (W.code bytes.now) w buffer.old result buffer.new }
 {
-    let x = writer::code(w, buffer, bytes);
-    written(w, x)
+    written(w, w.code(buffer, bytes))
 }
 
 #[unsafe(no_mangle)]
 pub extern "C" fn carderwheel_write_finish_in(w: Writer) -> WriteTold
     ensures { (b : List ℕ) → TellsWrite W.finish w b result b }
 {
-    let x = writer::finish(w);
-    written(w, x)
-}
-
-// A boolean that C gives: 0 is false, anything else true.
-fn truthful(value: u64) -> bool
-    ensures { result ≡ truth value }
-{
-    if value == 0 {
-        return false;
-    }
-    true
+    written(w, w.finish())
 }

@@ -1,16 +1,14 @@
 -- The numeric key of an array. Assumes nothing.
-use Rattle.std.specs.Prelude.{ℕ, ◌+◌, ◌-◌, ◌*◌, ◌/◌, ◌^◌, ◌≤◌, ◌<◌, Bool, true, false, ◌&&◌, List, [], ◌∷◌, ◌≡◌, refl, leb, length, get_or, drop}
+use Rattle.std.specs.Prelude.{ℕ, ◌+◌, ◌-◌, ◌*◌, ◌^◌, ◌≤◌, ◌<◌, Bool, true, false, ◌&&◌, List, [], ◌∷◌, ◌≡◌, refl, leb, length, get_or, drop, Option, Some, None}
 use Rattle.std.proofs.Common.{arith, add-one, sym, ap, ◌∙◌, drop_of_length-le, drop-cons, ne_eqb, eq-eqb, lt-ltb, le-ltb, leb-true}
-use Rattle.std.proofs.Math.Option.{Option, none, some}
+use Rattle.std.proofs.Math.Option.{Option as Maybe, none, some}
 use Rattle.std.specs.Prelude.{if◌then◌else◌}
 use Rattle.machine.specs.Number as N
 use Rattle.machine.specs.Convert.{worth, digits_key, array_key}
-use Rattle.convert.specs.declared.Key.{Key}
-use Rattle.convert.specs.declared.Key.TheVariants.{Index, Name}
 
-abbrev pub key_of : Key → Option ℕ
-key_of (Index i) = some i
-key_of Name = none
+abbrev pub key_of : Option ℕ → Maybe ℕ
+key_of (Some i) = some i
+key_of None = none
 
 pub key_none : (s : List ℕ) → length s ≡ 0 → none ≡ digits_key s
 key_none [] h = refl
@@ -64,24 +62,21 @@ module _ (s : List ℕ) where
             ap (λ (k : ℕ). worth (n * 10 + k) (drop (i + 1) s)) q
             ∙ sym (sym r.same ∙ at_byte ∙ ap (λ (t : Bool). if t then worth (n * 10 + (get_or s i 0 - 48)) (drop (i + 1) s) else none) e)
 
-        pub reading_fits : n ≤ (2 ^ 64 - 1 - d) / 10 → n * 10 + d < 2 ^ 64
-        reading_fits g = let l = digit_small (get_or s i 0) d e q in omega arith
+        pub reading_large : 2 ^ 64 ≤ n * 10 + d → none ≡ digits_key s
+        reading_large g = sym (sym next_byte ∙ worth_large (n * 10 + d) (drop (i + 1) s) g)
 
-        pub reading_large : (2 ^ 64 - 1 - d) / 10 < n → none ≡ digits_key s
-        reading_large g = sym (sym next_byte ∙ worth_large (n * 10 + d) (drop (i + 1) s) (omega arith))
-
-        pub reading_more : n ≤ (2 ^ 64 - 1 - d) / 10 → Reading s (n * 10 + d) (i + 1)
-        reading_more g = record { same = next_byte; fits = reading_fits g; within = omega arith }
+        pub reading_more : n * 10 + d < 2 ^ 64 → Reading s (n * 10 + d) (i + 1)
+        reading_more g = record { same = next_byte; fits = g; within = omega arith }
 
 -- the sign
 pub array_none : (s : List ℕ) → length s ≡ 0 → none ≡ array_key s
 array_none [] h = refl
 array_none (b ∷ s) h = absurd (omega arith)
 
-pub array_plus : (s : List ℕ) (r : Option ℕ) → 0 < length s → get_or s 0 0 ≡ 43 → r ≡ digits_key (drop 1 s) → r ≡ array_key s
+pub array_plus : (s : List ℕ) (r : Maybe ℕ) → 0 < length s → get_or s 0 0 ≡ 43 → r ≡ digits_key (drop 1 s) → r ≡ array_key s
 array_plus [] r h e q = absurd (omega arith)
 array_plus (b ∷ s) r h e q = q ∙ sym (ap (λ (t : Bool). if t then digits_key s else digits_key (b ∷ s)) (eq-eqb b 43 e))
 
-pub array_plain : (s : List ℕ) (r : Option ℕ) → 0 < length s → (get_or s 0 0 ≡ 43 → ⊥) → r ≡ digits_key s → r ≡ array_key s
+pub array_plain : (s : List ℕ) (r : Maybe ℕ) → 0 < length s → (get_or s 0 0 ≡ 43 → ⊥) → r ≡ digits_key s → r ≡ array_key s
 array_plain [] r h e q = absurd (omega arith)
 array_plain (b ∷ s) r h e q = q ∙ sym (ap (λ (t : Bool). if t then digits_key s else digits_key (b ∷ s)) (ne_eqb b 43 e))

@@ -9,7 +9,7 @@ ghost use Rattle.convert.specs.Truth.{Truth};
 ghost use Rattle.convert.specs.Shows.{Shows};
 ghost use Rattle.convert.specs.Keys.{key_of};
 
-use number::{JsNumber, parse};
+use number::JsNumber;
 use texts::{Source, bytes_of, equal_bytes, size_of};
 use value::Value;
 
@@ -170,56 +170,29 @@ pub fn abstract_eq<'a>(
     loose_eq(code, n, text, m, v, u)
 }
 
-/// A key of an array: a number below 2^64, or a name.
-#[derive(Clone, Copy)]
-pub enum Key {
-    Index(u64),
-    Name,
-}
-
-const LARGEST: u64 = 0xffff_ffff_ffff_ffff;
-
-fn digit_of(b: u8) -> u64
-    requires { 48 ≤ b }
-    ensures { result ≡ b - 48 }
-{
-    (b - b'0') as u64
-}
-
-pub fn digits_key(s: &[u8]) -> Key
+pub fn digits_key(s: &[u8]) -> Option<u64>
     ensures { key_of result ≡ digits_key s.now }
 {
-    if s.len() == 0 {
-        return Key::Name;
+    if s.is_empty() {
+        return None;
     }
     let mut worth: u64 = 0;
-    let mut i: usize = 0;
-    while i < s.len() {
-        let b = s[i];
-        if parse::is_digit(b) {
-            let d = digit_of(b);
-            if (LARGEST - d) / 10 < worth {
-                return Key::Name;
-            }
-            worth = worth * 10 + d;
-            i += 1;
-        } else {
-            return Key::Name;
+    for b in s {
+        if !b.is_ascii_digit() {
+            return None;
         }
+        worth = worth.checked_mul(10)?.checked_add(u64::from(*b - b'0'))?;
     }
-    Key::Index(worth)
+    Some(worth)
 }
 
-pub fn array_key(s: &[u8]) -> Key
+pub fn array_key(s: &[u8]) -> Option<u64>
     ensures { key_of result ≡ array_key s.now }
 {
-    if s.len() == 0 {
-        return Key::Name;
+    match s {
+        [b'+', digits @ ..] => digits_key(digits),
+        _ => digits_key(s),
     }
-    if s[0] == b'+' {
-        return digits_key(&s[1..]);
-    }
-    digits_key(s)
 }
 
 /// What an array's `length` is worth.
@@ -227,13 +200,7 @@ pub fn length_floor(v: Value) -> u64
     ensures { result ≡ length_floor (value_of v) }
 {
     match v {
-        Value::Undefined => 0,
-        Value::Null => 0,
-        Value::Boolean(_) => 0,
         Value::Number(x) => JsNumber::raw(x).js_to_int(),
-        Value::CodeText(_, _) => 0,
-        Value::MadeText(_, _) => 0,
-        Value::Object(_) => 0,
-        Value::Function(_) => 0,
+        _ => 0,
     }
 }

@@ -1,5 +1,5 @@
 -- The dispatcher's contract, and a step's. Assumes nothing.
-use Rattle.std.specs.Prelude.{ℕ, ◌+◌, ◌-◌, ◌*◌, ◌≤◌, ◌<◌, Bool, List, [], ◌∷◌, ◌≡◌, refl, ltb, get_or}
+use Rattle.std.specs.Prelude.{ℕ, ◌+◌, ◌-◌, ◌*◌, ◌≤◌, ◌<◌, Bool, List, [], ◌∷◌, ◌≡◌, refl, ltb, get_or, Option, Some, None}
 use Rattle.std.proofs.Common.{sym, ap, subst, ◌∙◌, lt-ltb, le-ltb, arith}
 use Rattle.std.specs.Prelude.{if◌then◌else◌}
 use Rattle.machine.specs.Image as Im
@@ -18,8 +18,6 @@ use Rattle.outcome.specs.declared.Part.{Part}
 use Rattle.outcome.specs.declared.Part.TheVariants.{Went, Ended, Refused, Register, Join, Print, More}
 use Rattle.outcome.specs.declared.Stepped.{Stepped}
 use Rattle.fetch.specs.declared.Running.{Running}
-use Rattle.fetch.specs.declared.Fetched.{Fetched}
-use Rattle.fetch.specs.declared.Fetched.TheVariants.{Got, Missing}
 use Rattle.fetch.specs.Running.{Runs, Coded, CodedText, Texts, Fetches, fetch_then, current_is, got}
 use Rattle.readops.specs.Holds.{Constants}
 
@@ -126,10 +124,10 @@ module _ {x : Running} {d : Depths} {w : List ℕ} (q : Runs x d w) where
   pub body_go : {n : ℕ} {code : List ℕ} (s : St.State) → Coded x n code s → d.ip < x.shape.size → R.body (R.kind_of (View.on_stacks d w s)) ≡ I.fetch I.instruction
   body_go s h g = body_is s h ∙ ap (chosen s) (lt-ltb d.ip x.shape.size g)
 
-module _ {H : St.State → Type 0} {x : Running} {n : ℕ} {code : List ℕ} {d : Depths} {w : List ℕ} {f : Fetched} (c : (s : St.State) → H s → Coded x n code s)
+module _ {H : St.State → Type 0} {x : Running} {n : ℕ} {code : List ℕ} {d : Depths} {w : List ℕ} {f : Option (ℕ × Depths)} (c : (s : St.State) → H s → Coded x n code s)
     (q : Runs x d w) (k : Fetches x n code d f) where
   -- the newest frame has run out
-  pub step_out : {e : Depths} {r : Stepped} → f ≡ Missing → View.PopsFrame d w e → r ≡ stepped e Went → Steps H x d w r w
+  pub step_out : {e : Depths} {r : Stepped} → f ≡ None → View.PopsFrame d w e → r ≡ stepped e Went → Steps H x d w r w
   step_out {e} {r} g p z =
       let l : x.shape.size < d.ip + 1 = rw g at k.ready in
       subst (λ (y : Stepped). Steps H x d w y w) (sym z) (record {
@@ -139,12 +137,12 @@ module _ {H : St.State → Type 0} {x : Running} {n : ℕ} {code : List ℕ} {d 
       })
 
   -- an opcode is begun
-  pub step_go : {b : ℕ} {e : Depths} {r : Stepped} {w' : List ℕ} → f ≡ Got b e → Dispatches H x (I.instruction b) e w r w' → Steps H x d w r w'
+  pub step_go : {b : ℕ} {e : Depths} {r : Stepped} {w' : List ℕ} → f ≡ Some (b, e) → Dispatches H x (I.instruction b) e w r w' → Steps H x d w r w'
   step_go {b} {e} {r} {w'} g m =
       let l : d.ip + 1 ≤ x.shape.size = (got k g).2 in
       record {
         goes = λ s h. subst (Tells r.how r.depths w' s)
             (sym (ap (λ (p : Program). out p (View.on_stacks d w s)) (body_go q s (c s h) (omega (arith, l)))
-            ∙ k.goes w q s (c s h) I.instruction ∙ ap (λ (u : Fetched). fetch_then u I.instruction x d w s) g)) (m.goes s h);
+            ∙ k.goes w q s (c s h) I.instruction ∙ ap (λ (u : Option (ℕ × Depths)). fetch_then u I.instruction x d w s) g)) (m.goes s h);
         kept = m.kept;
       }

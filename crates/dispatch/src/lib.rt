@@ -8,9 +8,12 @@ ghost use Rattle.stacks.specs.View.{Ready};
 ghost use Rattle.fetch.specs.Running.{Runs};
 ghost use Rattle.dispatch.specs.Dispatch.{Dispatches, Steps, Held};
 
-use fetch::{Fetched, Running};
+use fetch::Running;
 use outcome::{Part, Stepped, left_to_do, went};
 use readops::constants;
+use stackops::operators::{
+    BitAnd, BitOr, BitXor, Div, Gt, GtEq, Lt, LtEq, Mod, Mul, ShiftLeft, ShiftRight, Sub,
+};
 use stackops::{arithmetic, comparison, control, locals};
 use stacks::Depths;
 
@@ -37,30 +40,30 @@ pub fn execute<'a>(
         1 => locals::load_local(x, d, code, n, stacks),
         2 => locals::store_local(x, d, code, n, stacks),
         10 => constants::add(d, code, n, text, m, stacks),
-        11 => arithmetic::sub(d, code, n, text, m, stacks),
-        12 => arithmetic::mul(d, code, n, text, m, stacks),
-        13 => arithmetic::div(d, code, n, text, m, stacks),
-        14 => arithmetic::modulo(d, code, n, text, m, stacks),
+        11 => arithmetic::compute::<Sub>(d, code, n, text, m, stacks),
+        12 => arithmetic::compute::<Mul>(d, code, n, text, m, stacks),
+        13 => arithmetic::compute::<Div>(d, code, n, text, m, stacks),
+        14 => arithmetic::compute::<Mod>(d, code, n, text, m, stacks),
         15 => arithmetic::neg(d, code, n, text, m, stacks),
         20 => arithmetic::not(d, n, m, stacks),
-        21 => arithmetic::bit_and(d, code, n, text, m, stacks),
-        22 => arithmetic::bit_or(d, code, n, text, m, stacks),
-        23 => arithmetic::bit_xor(d, code, n, text, m, stacks),
-        24 => arithmetic::shift_left(d, code, n, text, m, stacks),
-        25 => arithmetic::shift_right(d, code, n, text, m, stacks),
-        30 => comparison::eq(d, code, n, text, m, stacks),
-        31 => comparison::strict_eq(d, code, n, text, m, stacks),
-        32 => comparison::not_eq(d, code, n, text, m, stacks),
-        33 => comparison::strict_not_eq(d, code, n, text, m, stacks),
-        34 => comparison::lt(d, code, n, text, m, stacks),
-        35 => comparison::gt(d, code, n, text, m, stacks),
-        36 => comparison::lt_eq(d, code, n, text, m, stacks),
-        37 => comparison::gt_eq(d, code, n, text, m, stacks),
-        38 => comparison::logical_and(d, n, m, stacks),
-        39 => comparison::logical_or(d, n, m, stacks),
+        21 => arithmetic::compute::<BitAnd>(d, code, n, text, m, stacks),
+        22 => arithmetic::compute::<BitOr>(d, code, n, text, m, stacks),
+        23 => arithmetic::compute::<BitXor>(d, code, n, text, m, stacks),
+        24 => arithmetic::compute::<ShiftLeft>(d, code, n, text, m, stacks),
+        25 => arithmetic::compute::<ShiftRight>(d, code, n, text, m, stacks),
+        30 => comparison::equality::<false, true>(d, code, n, text, m, stacks),
+        31 => comparison::equality::<true, true>(d, code, n, text, m, stacks),
+        32 => comparison::equality::<false, false>(d, code, n, text, m, stacks),
+        33 => comparison::equality::<true, false>(d, code, n, text, m, stacks),
+        34 => comparison::compare::<Lt>(d, code, n, text, m, stacks),
+        35 => comparison::compare::<Gt>(d, code, n, text, m, stacks),
+        36 => comparison::compare::<LtEq>(d, code, n, text, m, stacks),
+        37 => comparison::compare::<GtEq>(d, code, n, text, m, stacks),
+        38 => comparison::logical::<true>(d, n, m, stacks),
+        39 => comparison::logical::<false>(d, n, m, stacks),
         40 => control::jump(x, d, code, n),
-        41 => control::jump_if_false(x, d, code, n, m, stacks),
-        42 => control::jump_if_true(x, d, code, n, m, stacks),
+        41 => control::jump_if::<false>(x, d, code, n, m, stacks),
+        42 => control::jump_if::<true>(x, d, code, n, m, stacks),
         51 => control::return_value(d, stacks),
         70 => locals::get_this(d, stacks),
         72 => comparison::never(d, stacks),
@@ -94,8 +97,8 @@ pub fn step<'a>(
     if d.frames == 0 {
         return control::halt(d, stacks);
     }
-    let Fetched::Got(op, e) = fetch::fetch(x, d, code, n) else {
-        return went(stacks::pop_frame(d, stacks));
+    let Some((op, e)) = fetch::fetch(x, d, code, n) else {
+        return went(d.pop_frame(stacks));
     };
     execute(op, x, e, code, n, places, stacks, text, m)
 }

@@ -1,6 +1,6 @@
 -- What the changes of document 02 promise, of the engine: over every list of calls from what clear gives, as demand 3, or of a call over any stores of listed size.
 -- Assumes nothing.
-use Rattle.std.specs.Prelude.{Bool, true, List, ◌≡◌, length, ℕ, ◌^◌, ◌≤◌, ◌<◌}
+use Rattle.std.specs.Prelude.{Bool, true, List, ◌≡◌, length, ℕ, ◌^◌, ◌≤◌, ◌<◌, Ok}
 use Rattle.std.proofs.Common.{sym, ap, ◌∙◌}
 use Rattle.machine.specs.State.{State, fresh, limit, handler_store}
 use Rattle.machine.specs.Value.{number}
@@ -24,13 +24,12 @@ use Rattle.heapops.specs.Turns.{Mem}
 use Rattle.texts.specs.Overwrite.{overwrite}
 use Rattle.finish.specs.Parts.{Tables}
 use Rattle.run.specs.Runs.{state_in}
-use Rattle.host.specs.declared.Changed.TheVariants.{Done as Changed-as-Done}
 use Rattle.host.specs.Calls.{Clears, Called, Buffered, buffer_by, lent}
 use Rattle.host.specs.Lent.{lent_within}
 use Rattle.engine.specs.Demand3.{Engine, engine, Made, demand3}
 
 module _ {g g' : Tables} {m m' : Mem} {c : Counts} {calls : List H.Call} {answers : List H.Answer} {e : Engine}
-    (k : Clears g m (Changed-as-Done c) g' m') (r : Made (engine c g' m') calls answers e) where
+    (k : Clears g m (Ok c) g' m') (r : Made (engine c g' m') calls answers e) where
   -- Change 1: in the history that the engine's answers tell, each EnterTry gives 14 where it is cut off, else 22 where the handlers are at their limit, else it
   -- goes on; and no more handlers than that are pending afterwards.
   pub handlers_limited : All (λ d. All Tried d.steps) (history fresh calls) × (answers ≡ Machine-as-Engine.answers (history fresh calls)) × (e.counts.depths.handlers ≤ limit handler_store)

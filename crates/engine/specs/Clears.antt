@@ -1,5 +1,5 @@
 -- Clear's law: the fresh engine, over any stores of listed size. Assumes nothing.
-use Rattle.std.specs.Prelude.{ℕ, Bool, true, false, List, [], ◌≡◌}
+use Rattle.std.specs.Prelude.{ℕ, Bool, true, false, List, [], ◌≡◌, Result, Ok, Err}
 use Rattle.std.proofs.Common.{arith, true≢false, sym, ap, ◌∙◌, subst}
 use Rattle.std.proofs.lemmas.Bool.{false≢true}
 use Rattle.std.proofs.Math.Path.{refl}
@@ -15,27 +15,27 @@ use Rattle.heapops.specs.declared.Counts.{Counts}
 use Rattle.heapops.specs.Turns.{Mem, mem, below, fresh_counts}
 use Rattle.finish.specs.Parts.{Tables}
 use Rattle.run.specs.Runs.{ground_of, state_in}
-use Rattle.host.specs.declared.Changed.{Changed}
-use Rattle.host.specs.declared.Changed.TheVariants.{Done as Changed-as-Done, Refused as Changed-as-Refused}
 use Rattle.host.specs.Calls.{sizes_right, lent, stores_of, Clears}
 use Rattle.host.specs.Lent.{lengths, lent_by}
+use Rattle.host.specs.declared.refusal.Refusal.{Refusal}
+use Rattle.host.specs.declared.refusal.Refusal.TheVariants.{StoreSizes}
 
-abbrev is_done : Changed → Bool
-is_done (Changed-as-Done c) = true
-is_done (Changed-as-Refused n) = false
+abbrev is_done : Result Counts Refusal → Bool
+is_done (Ok c) = true
+is_done (Err e) = false
 
-cleared_not : (z : Counts) (n : ℕ) → Changed-as-Done z ≡ Changed-as-Refused n → ⊥
-cleared_not z n e = true≢false (ap is_done e)
+cleared_not : (z : Counts) (e : Refusal) → Ok z ≡ Err e → ⊥
+cleared_not z e q = true≢false (ap is_done q)
 
 module _ (g : Tables) (m : Mem) where
-  pub clear_refused : sizes_right g m ≡ false → Clears g m (Changed-as-Refused 33) g m
-  clear_refused e = record { told = (refl, refl, refl); asked = λ f. refl; granted = λ f n q. absurd (false≢true (sym e ∙ f)) }
+  pub clear_refused : sizes_right g m ≡ false → Clears g m (Err StoreSizes) g m
+  clear_refused e = record { told = (refl, refl, refl); asked = λ f. refl; granted = λ f x q. absurd (false≢true (sym e ∙ f)) }
 
   fresh_under : (w t o : List ℕ) (z : Sizes) → Stacks.on_stacks (fresh_counts z).depths w (Heap.fresh_heap (below (fresh_counts z) (mem w [] t o) (ground_of (fresh_counts z) g))) ≡ St.fresh
   unfolding row_of stack_of images_of
   fresh_under w t o z = refl
 
-  pub clear_done : {z : Sizes} {c : Counts} {h : List ℕ} → sizes_right g m ≡ true → Heap.Clears z h → c ≡ fresh_counts z → Clears g m (Changed-as-Done c) g (mem m.stacks h m.text m.output)
+  pub clear_done : {z : Sizes} {c : Counts} {h : List ℕ} → sizes_right g m ≡ true → Heap.Clears z h → c ≡ fresh_counts z → Clears g m (Ok c) g (mem m.stacks h m.text m.output)
   clear_done {z} {c} {h} e k q =
       let x = lengths g m e in let y = k.ready in
       let m' = mem m.stacks h m.text m.output in
@@ -57,8 +57,8 @@ module _ (g : Tables) (m : Mem) where
         text = omega arith;
         output = omega arith;
       }) in
-      subst (λ (y : Counts). Clears g m (Changed-as-Done y) g m') (sym q) (record {
+      subst (λ (y : Counts). Clears g m (Ok y) g m') (sym q) (record {
         told = (fresh, right, fresh_sound (stores_of g), record { place = λ f. refl });
         asked = λ f. absurd (false≢true (sym f ∙ e));
-        granted = λ f n q. cleared_not (fresh_counts z) n q;
+        granted = λ f x q. cleared_not (fresh_counts z) x q;
       })

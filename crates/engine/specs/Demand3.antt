@@ -1,7 +1,7 @@
 -- DEMAND 3 OF THE ENGINE: one claim about lists of calls, from what clear gives, on stores that nobody else writes meanwhile.
 -- How it is tied to the code: the `ensures` of each public function is a `Called` of its call, that of clear a `Clears`, and `Does` has just these two.
 -- So a list of calls that were made is a `Made`, step by step by what the functions ensure. Assumes nothing.
-use Rattle.std.specs.Prelude.{Bool, true, List, [], ◌∷◌, ◌≡◌, refl, ℕ, zero, suc, ◌+◌, ◌*◌, length}
+use Rattle.std.specs.Prelude.{Bool, true, List, [], ◌∷◌, ◌≡◌, refl, ℕ, zero, suc, ◌+◌, ◌*◌, length, Result, Ok, Err}
 use Rattle.std.proofs.Common.{sym, ap, subst, ◌∙◌}
 use Rattle.machine.specs.State as St
 use Rattle.machine.specs.State.{State, fresh}
@@ -18,10 +18,9 @@ use Rattle.heapops.specs.declared.Counts.{Counts}
 use Rattle.heapops.specs.Turns.{Mem}
 use Rattle.finish.specs.Parts.{Tables}
 use Rattle.run.specs.Runs.{state_in, Placed}
-use Rattle.host.specs.declared.Changed.{Changed}
-use Rattle.host.specs.declared.Changed.TheVariants.{Done as Changed-as-Done, Refused as Changed-as-Refused}
 use Rattle.host.specs.Calls.{sizes_right, lent, Stands, Rests, Called, Clears, answer_of_changed, counts_of_changed}
 use Rattle.host.specs.Lent.{lent_sizes, images_length}
+use Rattle.host.specs.declared.refusal.Refusal.{Refusal}
 
 -- what a host has between two calls: the counts of the last answer, and the stores
 pub record Engine : Type 0 where
@@ -54,18 +53,18 @@ rests e s H.clear h = tt
 -- A call, its answer and what it leaves, as the contracts say. Clear takes no counts; where it is refused, those that stood still do.
 pub data Does : Engine → H.Call → H.Answer → Engine → Type 0 where
   called : {e e' : Engine} {call : H.Call} {a : H.Answer} → Called call e.counts e.tables e.mem a e'.counts e'.tables e'.mem → Does e call a e'
-  cleared : {e e' : Engine} {a : H.Answer} (r : Changed) → Clears e.tables e.mem r e'.tables e'.mem → a ≡ answer_of_changed r → e'.counts ≡ counts_of_changed e.counts r
+  cleared : {e e' : Engine} {a : H.Answer} (r : Result Counts Refusal) → Clears e.tables e.mem r e'.tables e'.mem → a ≡ answer_of_changed r → e'.counts ≡ counts_of_changed e.counts r
       → Does e H.clear a e'
 
 -- what clear gives, over stores of listed size
 module _ {g g' : Tables} {m m' : Mem} where
-  pub clear_holds : {c : Counts} → Clears g m (Changed-as-Done c) g' m' → Holds (engine c g' m') fresh
+  pub clear_holds : {c : Counts} → Clears g m (Ok c) g' m' → Holds (engine c g' m') fresh
   clear_holds k = record { right = k.told.1; stands = k.told.2; state = k.told.0; unique = unique_fresh; placed = k.told.3 }
 
-  clears : (r : Changed) (c₀ c : Counts) (a : H.Answer) (s : State) → sizes_right g m ≡ true → Clears g m r g' m' → a ≡ answer_of_changed r → c ≡ counts_of_changed c₀ r
+  clears : (r : Result Counts Refusal) (c₀ c : Counts) (a : H.Answer) (s : State) → sizes_right g m ≡ true → Clears g m r g' m' → a ≡ answer_of_changed r → c ≡ counts_of_changed c₀ r
       → (a ≡ (perform H.clear s).answer) × Holds (engine c g' m') (perform H.clear s).after
-  clears (Changed-as-Done d) c₀ c a s l k p q = (p, rw q (clear_holds k))
-  clears (Changed-as-Refused n) c₀ c a s l k p q = absurd (k.granted l n refl)
+  clears (Ok d) c₀ c a s l k p q = (p, rw q (clear_holds k))
+  clears (Err x) c₀ c a s l k p q = absurd (k.granted l x refl)
 
 -- A call over an engine that holds a state does as the machine.
 pub meets : (e e' : Engine) (s : State) (call : H.Call) (a : H.Answer) → Holds e s → Does e call a e' → (a ≡ (perform call s).answer) × Holds e' (perform call s).after
@@ -141,6 +140,6 @@ counts_told {e} {s} h = counts_in e.counts e.tables e.mem h.placed ∙ ap counts
 -- THE CLAIM, over any stores of listed size that were cleared: demand 3 holds of every list of the calls, with any arguments; the engine's answers are the
 -- machine's, and so is what its stores then hold, and how much of each it says is in use.
 pub demand3 : {g g' : Tables} {m m' : Mem} {c : Counts} {calls : List H.Call} {answers : List H.Answer} {e : Engine}
-    → Clears g m (Changed-as-Done c) g' m' → Made (engine c g' m') calls answers e
+    → Clears g m (Ok c) g' m' → Made (engine c g' m') calls answers e
     → Machine.Demand3 calls × (answers ≡ Machine-as-Engine.answers (history fresh calls)) × Holds e (leaves fresh calls) × (e.counts ≡ counts_of (leaves fresh calls))
 demand3 k r = let d = Machine-as-Engine.engine Engine Holds Does meets (clear_holds k) r in (d.0, d.1, d.2, counts_told d.2)

@@ -1,7 +1,7 @@
 -- Load's call over the image's load. Assumes nothing.
-use Rattle.std.specs.Prelude.{ℕ, ◌+◌, ◌≤◌, Bool, true, false, ◌&&◌, List, ◌≡◌, refl, eqb, leb, length}
+use Rattle.std.specs.Prelude.{ℕ, ◌+◌, ◌≤◌, Bool, true, false, ◌&&◌, List, ◌≡◌, refl, eqb, leb, length, Ok, Err}
 use Rattle.std.proofs.Math.Option.{Option, none, some}
-use Rattle.std.proofs.Common.{sym, ap, subst, ◌∙◌, leb-true}
+use Rattle.std.proofs.Common.{sym, ap, ◌∙◌, leb-true}
 use Rattle.machine.specs.Fields.{set_code}
 use Rattle.machine.specs.Image as Im
 use Rattle.machine.specs.State.{State, limit, code_store, image_store}
@@ -13,8 +13,8 @@ use Rattle.heap.specs.Layout.{heap_words}
 use Rattle.image.specs.Load as I
 use Rattle.image.specs.Load.{Stores, Loads, or_else, unless}
 use Rattle.image.specs.declared.ImageCounts.{ImageCounts}
-use Rattle.image.specs.declared.Loaded.{Loaded}
-use Rattle.image.specs.declared.Loaded.TheVariants.{Done, Refused}
+use Rattle.image.specs.Errors.{asked}
+use Rattle.image.specs.declared.error.LoadError.{LoadError}
 use Rattle.heapops.specs.declared.Counts.{Counts}
 use Rattle.heapops.specs.Turns.{Mem}
 use Rattle.finish.specs.Parts.{Tables}
@@ -50,7 +50,7 @@ lent_listed : {c : Counts} {g : Tables} {m : Mem} → Lent c g m → I.listed (s
 lent_listed {c} {g} {m} e = first (I.listed (stores_of g)) (eqb (length m.stacks) stack_words) (eqb (length m.heap) heap_words) (eqb (length m.text) text_limit) (eqb (length m.output) output_limit) (lent_sizes e)
 
 -- the machine's call, over the image's load
-called : (c : Counts) (g g' : Tables) (m : Mem) (bs : List ℕ) (r : Loaded) → Loads (stores_of g) (stores_of g') (image_counts c) bs r → Lent c g m → Stands c g
+called : (c : Counts) (g g' : Tables) (m : Mem) (bs : List ℕ) (r : I.Loaded) → Loads (stores_of g) (stores_of g') (image_counts c) bs r → Lent c g m → Stands c g
     → Comes (H.load bs) (state_in c g m) (I.answer_of r) (state_in (with_images (I.counts_of (image_counts c) r) c) g' m)
 called c g g' m bs r l e s =
     let a : state_in c g m ≡ I.shown (stores_of g) (image_counts c) (state_in c g m) = is_shown c (image_counts c) g g m s.inside in
@@ -67,27 +67,22 @@ room_for x y k n e =
     let j = none_of (unless (leb (k.code + n) (limit code_store)) 8) (unless (leb (k.images + 1) (limit image_store)) 9) h in
     (held (leb (k.code + n) (limit code_store)) 8 j.0, held (leb (k.images + 1) (limit image_store)) 9 j.1)
 
-module _ {c : Counts} {g g' : Tables} {m : Mem} {bs : List ℕ} {r : Loaded} (e : Lent c g m) (k : Loads (stores_of g) (stores_of g') (image_counts c) bs r) where
-  loads : {x : Loaded} → r ≡ x → Loads (stores_of g) (stores_of g') (image_counts c) bs x
-  loads q = subst (λ (x : Loaded). Loads (stores_of g) (stores_of g') (image_counts c) bs x) q k
-
+module _ {c : Counts} {g g' : Tables} {m : Mem} {bs : List ℕ} (e : Lent c g m) where
   -- The image is refused.
-  pub load_refused : {q : ℕ} → r ≡ Refused q → Called (H.load bs) c g m (H.refusal q) c g' m
-  load_refused {q} h =
-      let l = loads h in
+  pub load_refused : {q : LoadError} → Loads (stores_of g) (stores_of g') (image_counts c) bs (Err q) → Called (H.load bs) c g m (H.refusal (asked q)) c g' m
+  load_refused {q} l =
       let same : g' ≡ g = ap tables_of l.leaves in
       record {
-        machine = λ r. comes_lent (H.load bs) e (called c g g' m bs (Refused q) l e (r e.right));
+        machine = λ r. comes_lent (H.load bs) e (called c g g' m bs (Err q) l e (r e.right));
         refused = λ n f. (refl, same, refl);
         stands = λ t s. (ap (λ (x : Tables). lent c x m) same ∙ t, l.sound s);
         placed = λ z. z;
       }
 
   -- It is accepted.
-  pub load_done : {i : ℕ} {d : ImageCounts} → r ≡ Done i d → length g'.code ≡ length g.code → length g'.places ≡ length g.places → length g'.rows ≡ length g.rows
-      → length g'.starts ≡ length g.starts → Called (H.load bs) c g m (H.numbered i) (with_images d c) g' m
-  load_done {i} {d} h a b u w =
-      let l = loads h in
+  pub load_done : {i : ℕ} {d : ImageCounts} → Loads (stores_of g) (stores_of g') (image_counts c) bs (Ok (i, d)) → length g'.code ≡ length g.code → length g'.places ≡ length g.places
+      → length g'.rows ≡ length g.rows → length g'.starts ≡ length g.starts → Called (H.load bs) c g m (H.numbered i) (with_images d c) g' m
+  load_done {i} {d} l a b u w =
       let room : (leb (c.code + length bs) (limit code_store) ≡ true) × (leb (c.images + 1) (limit image_store) ≡ true) = room_for (I.listed (stores_of g)) (H.refusal_read (Im.image c.code bs)) (image_counts c) (length bs) l.asked in
       let code : leb d.code (limit code_store) ≡ true = ap (λ (k : ImageCounts). leb k.code (limit code_store)) l.leaves.1.counts ∙ room.0 in
       let images : leb d.images (limit image_store) ≡ true = ap (λ (k : ImageCounts). leb k.images (limit image_store)) l.leaves.1.counts ∙ room.1 in
@@ -109,7 +104,7 @@ module _ {c : Counts} {g g' : Tables} {m : Mem} {bs : List ℕ} {r : Loaded} (e 
         output = y.output;
       }) in
       record {
-        machine = λ r. comes_lent (H.load bs) e (called c g g' m bs (Done i d) l e (r e.right));
+        machine = λ r. comes_lent (H.load bs) e (called c g g' m bs (Ok (i, d)) l e (r e.right));
         refused = λ n f. (cc, cc, refl);
         stands = λ t s. (right, l.sound s);
         placed = λ z. z;

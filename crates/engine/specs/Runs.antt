@@ -1,11 +1,10 @@
 -- The laws of a run: its own frame, and then the machine's steps. Assumes nothing.
-use Rattle.std.specs.Prelude.{ℕ, ◌≤◌, ◌<◌, Bool, true, false, List, [], ◌≡◌, refl, ltb, length}
+use Rattle.std.specs.Prelude.{ℕ, ◌≤◌, Bool, true, false, List, [], ◌≡◌, refl, ltb, length, Result, Ok, Err}
 use Rattle.std.proofs.Math.Option.{none}
-use Rattle.std.proofs.Common.{sym, ap, subst, ◌∙◌, lt-ltb, le-ltb}
+use Rattle.std.proofs.Common.{sym, ap, subst, ◌∙◌}
 use Rattle.machine.specs.State as St
 use Rattle.machine.specs.Fields as Fi
 use Rattle.machine.specs.State.{limit, code_store, image_store}
-use Rattle.machine.specs.Error as E
 use Rattle.machine.specs.Act as A
 use Rattle.machine.specs.Program.{next, make}
 use Rattle.machine.specs.Out.{went, out, out_next}
@@ -14,13 +13,9 @@ use Rattle.machine.specs.Host as H
 use Rattle.machine.proofs.Unique.{Unique, unique_begun}
 use Rattle.value.specs.Errors.{error_of, space_of}
 use Rattle.value.specs.Lists.{bytes_of, row_length, stack_length}
-use Rattle.value.specs.declared.Space.{Space}
-use Rattle.value.specs.declared.JsVmError.{JsVmError}
 use Rattle.stacks.specs.Laws.{top_length}
 use Rattle.stacks.specs.View as Stacks
 use Rattle.stacks.specs.declared.Depths.{Depths}
-use Rattle.stacks.specs.declared.Made.{Made}
-use Rattle.stacks.specs.declared.Made.TheVariants.{Went, Failed, Refused}
 use Rattle.image.specs.View.{images_of}
 use Rattle.image.specs.Load.{Sound}
 use Rattle.image.specs.declared.ImageCounts.{ImageCounts}
@@ -31,8 +26,11 @@ use Rattle.run.specs.Bounds.{went_bounded}
 use Rattle.run.specs.Runs.{Told, run_of, run_is, Whole, ground_of, state_in, ran_of, result_of, Leaves}
 use Rattle.run.specs.declared.Ran.{Ran}
 use Rattle.host.specs.Calls.{lent, stores_of, image_counts, Called}
-use Rattle.host.specs.Lent.{Lent, lent_by, lent_lengths, lent_within, whole_lent, images_length}
-use Rattle.host.specs.Performs.{Comes, comes_failed, comes_went, called_no, called_full, called_refused, called_sure}
+use Rattle.host.specs.Lent.{Lent, lent_by, lent_lengths, lent_within, whole_lent}
+use Rattle.value.specs.Errors.{stop_number}
+use Rattle.host.specs.Performs.{Comes, comes_failed, comes_went, called_full, called_refused, called_sure}
+use Rattle.value.specs.declared.Stop.{Stop}
+use Rattle.value.specs.declared.Stop.TheVariants.{Failed, Refused}
 
 limit_is : R.step_limit ≡ R.max_steps
 unfolding R.step_limit
@@ -92,61 +90,42 @@ module _ {c : Counts} {g : Tables} {m : Mem} (e : Lent c g m) where
 
 -- The call, of what is lent
 module _ {c : Counts} {g : Tables} {m : Mem} (i : ℕ) (e : Lent c g m) where
-  pub no_image : c.images ≤ i → Called (H.run i) c g m (H.refusal 10) c g m
-  no_image h =
-      let q : ltb i (length (state_in c g m).images) ≡ false = le-ltb i _ (rw images_length h) in
-      called_no e (ap (λ (b : Bool). H.ask 10 b none) q)
+  module _ (found : ltb i (length (state_in c g m).images) ≡ true) {w : List ℕ} where
+    abbrev Framed : Result Depths Stop → Type 0
+    Framed r = Stacks.Makes (A.push_frame i 0 []) c.depths m.stacks r w
 
-  module _ (b : i < c.images) {r : Made} {w : List ℕ} (k : Stacks.Makes (A.push_frame i 0 []) c.depths m.stacks r w) where
-    found : ltb i (length (state_in c g m).images) ≡ true
-    found = lt-ltb i _ (rw images_length b)
-
-    made : {x : Made} → r ≡ x → out (make (A.push_frame i 0 []) next) (state_in c g m) ≡ Stacks.made_then x next c.depths w (below c m (ground_of c g))
-    made q = k.goes (below c m (ground_of c g)) next ∙ ap (λ (x : Made). Stacks.made_then x next c.depths w (below c m (ground_of c g))) q
+    made : {x : Result Depths Stop} → Framed x → out (make (A.push_frame i 0 []) next) (state_in c g m) ≡ Stacks.made_then x next c.depths w (below c m (ground_of c g))
+    made k = k.goes (below c m (ground_of c g)) next
 
     same_stacks : w ≡ m.stacks → with_stacks w m ≡ m
     same_stacks q = ap (λ (x : List ℕ). with_stacks x m) q
 
-    pub start_full : {q : Space} {n : ℕ} → r ≡ Refused q → n ≡ St.question (space_of q) → Called (H.run i) c g m (H.refusal n) c g (with_stacks w m)
-    start_full {q} {n} u v =
-        let z : w ≡ m.stacks = subst (λ (x : Made). Stacks.MadeReady x m.stacks w) u k.ready in
-        called_full e (space_of q) (asked i (state_in c g m) found) (made u) v (same_stacks z)
+    -- no frame more
+    pub start_refused : (s : Stop) → Framed (Err s) → Called (H.run i) c g m (H.refusal (stop_number s)) c g (with_stacks w m)
+    start_refused (Refused q) k = called_full e (space_of q) (asked i (state_in c g m) found) (made k) refl (same_stacks k.ready)
+    start_refused (Failed q) k = called_refused e (same_stacks k.ready) (comes_failed (H.run i) (state_in c g m) (asked i (state_in c g m) found) (error_of q) _ (made k))
 
-    pub start_failed : {q : JsVmError} {n : ℕ} → r ≡ Failed q → n ≡ E.error_number (error_of q) → Called (H.run i) c g m (H.refusal n) c g (with_stacks w m)
-    start_failed {q} {n} u v =
-        let z : w ≡ m.stacks = subst (λ (x : Made). Stacks.MadeReady x m.stacks w) u k.ready in
-        let p = comes_failed (H.run i) (state_in c g m) (asked i (state_in c g m) found) (error_of q) _ (made u) in
-        called_refused e (same_stacks z) (p.0 ∙ ap H.refusal (sym v), p.1)
-
-    module _ {d : Depths} (u : r ≡ Went d) where
+    module _ {d : Depths} (k : Framed (Ok d)) where
       goes : out (make (A.push_frame i 0 []) next) (state_in c g m) ≡ went (state_in (with_depths d c) g (with_stacks w m))
-      goes = made u ∙ out_next (state_in (with_depths d c) g (with_stacks w m))
+      goes = made k ∙ out_next (state_in (with_depths d c) g (with_stacks w m))
 
-      whole_start : Whole (with_depths d c) g (with_stacks w m) (ground_of (with_depths d c) g)
-      whole_start = let f = whole_lent e in record {
+      pub start_whole : Whole (with_depths d c) g (with_stacks w m) (ground_of (with_depths d c) g)
+      start_whole = let f = whole_lent e in record {
         bounded = went_bounded (state_in (with_depths d c) g (with_stacks w m)) (make (A.push_frame i 0 []) next) (state_in c g m) goes f.bounded;
         code = refl;
         images = refl;
         codes = f.codes;
-        stacks = (subst (λ (x : Made). Stacks.MadeReady x m.stacks w) u k.ready).size;
+        stacks = k.ready.size;
         heap = f.heap;
         text = f.text;
         output = f.output;
       }
 
-      pub start_whole : {a : Counts} → a ≡ with_depths d c → Whole a g (with_stacks w m) (ground_of a g)
-      start_whole q = subst (λ (x : Counts). Whole x g (with_stacks w m) (ground_of x g)) (sym q) whole_start
-
-      ran_from_lem : (x : Ran) {m' : Mem} → (Unique (state_in (with_depths d c) g (with_stacks w m)) → ran_of x (with_depths d c) g m' ≡ run_of R.max_steps 0 (state_in (with_depths d c) g (with_stacks w m))) → Leaves (with_depths d c) x.counts g m'
+      pub start_ran : (x : Ran) {m' : Mem} → (Unique (state_in (with_depths d c) g (with_stacks w m)) → ran_of x (with_depths d c) g m' ≡ run_of R.max_steps 0 (state_in (with_depths d c) g (with_stacks w m))) → Leaves (with_depths d c) x.counts g m'
           → Called (H.run i) c g m (H.ran (result_of x.end) x.steps) x.counts g m'
-      ran_from_lem x {m'} t l =
+      start_ran x {m'} t l =
           let p : Unique (state_in c g m) → Comes (H.run i) (state_in c g m) (H.ran (result_of x.end) x.steps) (ran_of x (with_depths d c) g m').state = λ z. run_went i (state_in c g m) found (state_in (with_depths d c) g (with_stacks w m)) (ran_of x (with_depths d c) g m') goes
           (subst (λ (n : ℕ). ran_of x (with_depths d c) g m' ≡ run_of n 0 (state_in (with_depths d c) g (with_stacks w m))) (sym limit_is) (t (unique_begun i (state_in c g m) _ goes z))) in
           let ic : image_counts x.counts ≡ image_counts c = ap (λ (n : ℕ). record { code = n; images = x.counts.images }) l.code ∙ ap (λ (n : ℕ). record { code = c.code; images = n }) l.images in
           called_sure e refl (λ z. ((p z).0, (p z).1 ∙ sym (ap (λ (y : ImageCounts). state_of x.counts m' (base_of y g)) ic)))
           (lent_again e l refl refl) (λ s. subst (λ (y : ImageCounts). Sound (stores_of g) y) (sym ic) s) (λ z. l.placed)
-
-      pub start_ran : {a : Counts} (x : Ran) {m' : Mem} → a ≡ with_depths d c → (Unique (state_in a g (with_stacks w m)) → ran_of x a g m' ≡ run_of R.max_steps 0 (state_in a g (with_stacks w m))) → Leaves a x.counts g m'
-          → Called (H.run i) c g m (H.ran (result_of x.end) x.steps) x.counts g m'
-      start_ran {a} x {m'} q t l =
-          ran_from_lem x (subst (λ (y : Counts). Unique (state_in y g (with_stacks w m)) → ran_of x y g m' ≡ run_of R.max_steps 0 (state_in y g (with_stacks w m))) q t) (subst (λ (y : Counts). Leaves y x.counts g m') q l)

@@ -1,31 +1,12 @@
 //! Load and register: what an image brings, and a template of it made a function.
-ghost use Rattle.std.specs.Prelude.{◌≡◌};
 ghost use Rattle.machine.specs.Host as Host;
 ghost use Rattle.heapops.specs.Turns.{mem};
 ghost use Rattle.finish.specs.Parts.{tables};
 ghost use Rattle.host.specs.Calls.{Called, answer_of_numbered, counts_of_numbered};
-ghost use Rattle.engine.specs.Registers.{added};
 
-use heap::Grown;
 use heapops::Counts;
-use host::Numbered;
-use host::questions::lent;
+use host::{Refusal, questions};
 use image::ImageCounts;
-
-// What came of a function more.
-fn settle(c: Counts, r: Grown) -> Numbered
-    ensures { result ≡ added c r }
-{
-    match r {
-        Grown::Refused(q) => Numbered::Refused(run::question(q)),
-        Grown::Went(z) => {
-            let n = c.sizes.functions;
-            let mut e = c;
-            e.sizes = z;
-            Numbered::Done(n, e)
-        }
-    }
-}
 
 pub fn load(
     code: &mut [u8],
@@ -38,27 +19,21 @@ pub fn load(
     output: &[u8],
     c: Counts,
     image: &[u8],
-) -> Numbered
+) -> Result<(usize, Counts), Refusal>
     ensures { Called (Host.load image.now) c (tables code.old places.old rows.old starts.old) (mem stacks.now heap.now text.now output.now) (answer_of_numbered result) (counts_of_numbered c result) (tables code.new places.new rows.new starts.new) (mem stacks.now heap.now text.now output.now) }
 {
-    if lent(code, places, rows, starts, stacks, heap, text, output, c) {
-        let held = ImageCounts {
-            code: c.code,
-            images: c.images,
-        };
-        match image::load(code, places, rows, starts, held, image) {
-            image::Loaded::Refused(q) => {
-                return Numbered::Refused(q);
-            }
-            image::Loaded::Done(i, d) => {
-                let mut e = c;
-                e.code = d.code;
-                e.images = d.images;
-                return Numbered::Done(i, e);
-            }
-        }
-    }
-    Numbered::Refused(33)
+    questions::lent(code, places, rows, starts, stacks, heap, text, output, c)?;
+    let held = ImageCounts {
+        code: c.code,
+        images: c.images,
+    };
+    let (number, held) = image::load(code, places, rows, starts, held, image)?;
+    let counts = Counts {
+        code: held.code,
+        images: held.images,
+        ..c
+    };
+    Ok((number, counts))
 }
 
 pub fn register(
@@ -73,21 +48,12 @@ pub fn register(
     c: Counts,
     image: usize,
     template: usize,
-) -> Numbered
+) -> Result<(usize, Counts), Refusal>
     ensures { Called (Host.register image template) c (tables code.now places.now rows.now starts.now) (mem stacks.now heap.old text.now output.now) (answer_of_numbered result) (counts_of_numbered c result) (tables code.now places.now rows.now starts.now) (mem stacks.now heap.new text.now output.now) }
 {
-    if lent(code, places, rows, starts, stacks, heap, text, output, c) {
-        if c.images <= image {
-            return Numbered::Refused(10);
-        }
-        if template == 0 {
-            return Numbered::Refused(32);
-        }
-        if image::template_count(rows, starts, c.images, image) <= template {
-            return Numbered::Refused(32);
-        }
-        let r = heap::add_function(c.sizes, heap, image as u64, template as u64);
-        return settle(c, r);
-    }
-    Numbered::Refused(33)
+    questions::lent(code, places, rows, starts, stacks, heap, text, output, c)?;
+    questions::loaded(c, image)?;
+    questions::template(rows, starts, c, image, template)?;
+    let sizes = heap::add_function(c.sizes, heap, image as u64, template as u64)?;
+    Ok((c.sizes.functions, Counts { sizes, ..c }))
 }

@@ -7,8 +7,7 @@ ghost use Rattle.finish.specs.Parts.{tables};
 ghost use Rattle.host.specs.Calls.{Clears};
 
 use heapops::Counts;
-use host::Changed;
-use host::questions::listed;
+use host::{Refusal, questions};
 
 pub mod images;
 pub mod runs;
@@ -22,21 +21,9 @@ pub fn clear(
     heap: &mut [u64],
     text: &mut [u8],
     output: &mut [u8],
-) -> Changed
+) -> Result<Counts, Refusal>
     ensures { Clears (tables code.old places.old rows.old starts.old) (mem stacks.old heap.old text.old output.old) result (tables code.new places.new rows.new starts.new) (mem stacks.new heap.new text.new output.new) }
 {
-    if listed(
-        code.len(),
-        places.len(),
-        rows.len(),
-        starts.len(),
-        stacks.len(),
-        heap.len(),
-        text.len(),
-        output.len(),
-    ) {
-        let z = heap::clear(heap);
-        return Changed::Done(Counts::fresh(z));
-    }
-    Changed::Refused(33)
+    questions::sizes(code, places, rows, starts, stacks, heap, text, output)?;
+    Ok(Counts::fresh(heap::clear(heap)))
 }

@@ -1,44 +1,14 @@
 //! A run.
-ghost use Rattle.std.specs.Prelude.{◌<◌};
 ghost use Rattle.machine.specs.Host as Host;
 ghost use Rattle.heapops.specs.Turns.{mem};
 ghost use Rattle.finish.specs.Parts.{tables};
 ghost use Rattle.host.specs.Calls.{Called, answer_of_run, counts_of_run};
-ghost use Rattle.host.specs.Lent.{Lent};
 
 use heapops::Counts;
-use host::RunAnswer;
-use host::questions::lent;
-use stacks::Made;
+use host::{Refusal, questions};
+use run::Ran;
 
-// A run's own frame, and its steps.
-fn start(
-    code: &[u8],
-    places: &[u16],
-    rows: &[u16],
-    starts: &[u16],
-    stacks: &mut [u64],
-    heap: &mut [u64],
-    text: &mut [u8],
-    output: &mut [u8],
-    c: Counts,
-    image: usize,
-) -> RunAnswer
-    requires { Lent c (tables code.now places.now rows.now starts.now) (mem stacks.old heap.old text.old output.old) × (image < c.images) }
-    ensures { Called (Host.run image) c (tables code.now places.now rows.now starts.now) (mem stacks.old heap.old text.old output.old) (answer_of_run result) (counts_of_run c result) (tables code.now places.now rows.now starts.now) (mem stacks.new heap.new text.new output.new) }
-{
-    match stacks::push_frame(c.depths, stacks, image as u64, 0) {
-        Made::Refused(q) => RunAnswer::Refused(run::question(q)),
-        Made::Failed(e) => RunAnswer::Refused(run::error_number(e)),
-        Made::Went(d) => {
-            let begun = heapops::with_depths(c, d);
-            RunAnswer::Ran(run::run_loop(
-                begun, code, places, rows, starts, stacks, heap, text, output,
-            ))
-        }
-    }
-}
-
+// A run's own frame, and then its steps.
 pub fn run(
     code: &[u8],
     places: &[u16],
@@ -50,16 +20,21 @@ pub fn run(
     output: &mut [u8],
     c: Counts,
     image: usize,
-) -> RunAnswer
+) -> Result<Ran, Refusal>
     ensures { Called (Host.run image) c (tables code.now places.now rows.now starts.now) (mem stacks.old heap.old text.old output.old) (answer_of_run result) (counts_of_run c result) (tables code.now places.now rows.now starts.now) (mem stacks.new heap.new text.new output.new) }
 {
-    if lent(code, places, rows, starts, stacks, heap, text, output, c) {
-        if c.images <= image {
-            return RunAnswer::Refused(10);
-        }
-        return start(
-            code, places, rows, starts, stacks, heap, text, output, c, image,
-        );
-    }
-    RunAnswer::Refused(33)
+    questions::lent(code, places, rows, starts, stacks, heap, text, output, c)?;
+    questions::loaded(c, image)?;
+    let depths = c.depths.push_frame(stacks, image as u64, 0)?;
+    Ok(run::run_loop(
+        Counts { depths, ..c },
+        code,
+        places,
+        rows,
+        starts,
+        stacks,
+        heap,
+        text,
+        output,
+    ))
 }

@@ -1,7 +1,7 @@
 -- The template that runs, and the operand bytes of its code. Assumes nothing.
 use Prim.Native.Nat.{ℕ, ◌+◌, ◌-◌, ◌*◌, ◌≤◌, ◌<◌, max}
 use native.Mathlib.Omega.{arith}
-use Rattle.std.specs.Prelude.{Bool, ◌≡◌, refl, ltb}
+use Rattle.std.specs.Prelude.{Bool, ◌≡◌, refl, ltb, Option, Some, None, Err}
 use mathlib.Core.List.{List, [], ◌∷◌}
 use Rattle.std.proofs.Common.{sym, subst, ◌∙◌, lt-ltb, le-ltb}
 use Rattle.std.proofs.Math.Path.{ap}
@@ -24,12 +24,9 @@ use Rattle.stacks.specs.View
 use Rattle.stacks.specs.Laws.{with_ip, jumped, ready_ip}
 use Rattle.stacks.specs.declared.Depths.{Depths}
 use Rattle.outcome.specs.Meets.{Meets, stepped, onward}
-use Rattle.outcome.specs.declared.End.TheVariants.{Failed}
 use Rattle.outcome.specs.declared.Part.TheVariants.{Ended}
 use Rattle.outcome.specs.declared.Stepped.{Stepped}
 use Rattle.fetch.specs.declared.Running.{Running}
-use Rattle.fetch.specs.declared.Fetched.{Fetched}
-use Rattle.fetch.specs.declared.Fetched.TheVariants.{Got, Missing}
 
 abbrev pub byte_in : List ℕ → ℕ → ℕ → ℕ
 byte_in code n k = get_or (bytes_of code n) k 0
@@ -72,26 +69,26 @@ texts_of h = record { code = h.coded.code; text = h.text }
 
 -- Error 14: the operand bytes that were there are read.
 abbrev pub cut_of : Running → Depths → Stepped
-cut_of x d = stepped (with_ip (max d.ip x.shape.size) d) (Ended (Failed IpOutOfBounds))
+cut_of x d = stepped (with_ip (max d.ip x.shape.size) d) (Ended (Err IpOutOfBounds))
 
-abbrev pub fetch_then : Fetched → (ℕ → Program) → Running → Depths → List ℕ → St.State → Out
-fetch_then (Got b e) k x d w s = out (k b) (View.on_stacks e w s)
-fetch_then Missing k x d w s = ended (P.failed ip_out_of_bounds) (View.on_stacks (with_ip (max d.ip x.shape.size) d) w s)
+abbrev pub fetch_then : Option (ℕ × Depths) → (ℕ → Program) → Running → Depths → List ℕ → St.State → Out
+fetch_then (Some (b, e)) k x d w s = out (k b) (View.on_stacks e w s)
+fetch_then None k x d w s = ended (P.failed ip_out_of_bounds) (View.on_stacks (with_ip (max d.ip x.shape.size) d) w s)
 
 -- an operand of `width` bytes
-abbrev pub FetchReady : ℕ → ℕ → Fetched → Running → Depths → Type 0
-FetchReady m width (Got b e) x d = (e ≡ with_ip (d.ip + width) d) × (b < m) × (d.ip + width ≤ x.shape.size)
-FetchReady m width Missing x d = x.shape.size < d.ip + width
+abbrev pub FetchReady : ℕ → ℕ → Option (ℕ × Depths) → Running → Depths → Type 0
+FetchReady m width (Some (b, e)) x d = (e ≡ with_ip (d.ip + width) d) × (b < m) × (d.ip + width ≤ x.shape.size)
+FetchReady m width None x d = x.shape.size < d.ip + width
 
 -- THE CONTRACT of a reader of operands below m, of `width` bytes
-pub record Reads (m width : ℕ) (reader : (ℕ → Program) → Program) (x : Running) (n : ℕ) (code : List ℕ) (d : Depths) (r : Fetched) : Type 0 where
+pub record Reads (m width : ℕ) (reader : (ℕ → Program) → Program) (x : Running) (n : ℕ) (code : List ℕ) (d : Depths) (r : Option (ℕ × Depths)) : Type 0 where
   pub goes : (w : List ℕ) → Runs x d w → (s : St.State) → Coded x n code s → (k : ℕ → Program) → out (reader k) (View.on_stacks d w s) ≡ fetch_then r k x d w s
   pub ready : FetchReady m width r x d
 
-abbrev pub Fetches : Running → ℕ → List ℕ → Depths → Fetched → Type 0
+abbrev pub Fetches : Running → ℕ → List ℕ → Depths → Option (ℕ × Depths) → Type 0
 Fetches = Reads 256 1 I.fetch
 
-abbrev pub FetchesWord : Running → ℕ → List ℕ → Depths → Fetched → Type 0
+abbrev pub FetchesWord : Running → ℕ → List ℕ → Depths → Option (ℕ × Depths) → Type 0
 FetchesWord = Reads 65536 2 I.fetch_word
 
 -- The newest frame
@@ -143,7 +140,7 @@ module _ {x : Running} {d : Depths} {w : List ℕ} (r : Runs x d w) where
       ∙ ap (λ (z : ℕ). out (by s k (ltb d.ip x.shape.size) z) (View.on_stacks d w s)) h.at
 
   pub fetch_past : {n : ℕ} {code : List ℕ} (s : St.State) (h : Coded x n code s) (k : ℕ → Program) → x.shape.size ≤ d.ip
-      → out (I.fetch k) (View.on_stacks d w s) ≡ fetch_then Missing k x d w s
+      → out (I.fetch k) (View.on_stacks d w s) ≡ fetch_then None k x d w s
   unfolding by
   fetch_past s h k g =
       let z : max d.ip x.shape.size ≡ d.ip = omega arith in
@@ -165,53 +162,53 @@ module _ {x : Running} {d : Depths} {w : List ℕ} (r : Runs x d w) where
 
 -- One byte
 module _ (x : Running) (n : ℕ) (code : List ℕ) (d : Depths) where
-  pub reads_past : x.shape.size ≤ d.ip → Fetches x n code d Missing
+  pub reads_past : x.shape.size ≤ d.ip → Fetches x n code d None
   reads_past g = record { goes = λ w r s h k. fetch_past r s h k g; ready = omega arith }
 
-  pub reads_there : (b : ℕ) (e : Depths) → d.ip < x.shape.size → b ≡ byte_in code n (x.shape.at + d.ip) → b < 256 → e ≡ with_ip (d.ip + 1) d → Fetches x n code d (Got b e)
+  pub reads_there : (b : ℕ) (e : Depths) → d.ip < x.shape.size → b ≡ byte_in code n (x.shape.at + d.ip) → b < 256 → e ≡ with_ip (d.ip + 1) d → Fetches x n code d (Some (b, e))
   reads_there b e g q l f = record {
     goes = λ w r s h k. fetch_there r s h k g ∙ ap (λ (y : ℕ). out (k y) (View.on_stacks (with_ip (d.ip + 1) d) w s)) (sym q) ∙ ap (λ (y : Depths). out (k b) (View.on_stacks y w s)) (sym f);
     ready = (f, l, omega arith);
   }
 
   -- Two bytes
-  pub word_none : {r : Fetched} → Fetches x n code d r → r ≡ Missing → FetchesWord x n code d Missing
+  pub word_none : {r : Option (ℕ × Depths)} → Fetches x n code d r → r ≡ None → FetchesWord x n code d None
   word_none {r} f g = record {
-    goes = λ w q s h k. f.goes w q s h (λ hi. I.fetch λ lo. k (hi * 256 + lo)) ∙ ap (λ (y : Fetched). fetch_then y (λ hi. I.fetch λ lo. k (hi * 256 + lo)) x d w s) g;
-    ready = let z : FetchReady 256 1 Missing x d = rw g at f.ready in omega (arith, z);
+    goes = λ w q s h k. f.goes w q s h (λ hi. I.fetch λ lo. k (hi * 256 + lo)) ∙ ap (λ (y : Option (ℕ × Depths)). fetch_then y (λ hi. I.fetch λ lo. k (hi * 256 + lo)) x d w s) g;
+    ready = let z : FetchReady 256 1 None x d = rw g at f.ready in omega (arith, z);
   }
 
-  module _ {r : Fetched} {hi : ℕ} {e : Depths} (f : Fetches x n code d r) (g : r ≡ Got hi e) where
-    facts : FetchReady 256 1 (Got hi e) x d
+  module _ {r : Option (ℕ × Depths)} {hi : ℕ} {e : Depths} (f : Fetches x n code d r) (g : r ≡ Some (hi, e)) where
+    facts : FetchReady 256 1 (Some (hi, e)) x d
     facts = rw g at f.ready
 
     moved : (w : List ℕ) → Runs x d w → Runs x e w
     moved w q = subst (λ (y : Depths). Runs x y w) (sym facts.0) (runs_ip q (d.ip + 1))
 
     first : (w : List ℕ) (q : Runs x d w) (s : St.State) (h : Coded x n code s) (k : ℕ → Program) → out (I.fetch_word k) (View.on_stacks d w s) ≡ out (I.fetch λ lo. k (hi * 256 + lo)) (View.on_stacks e w s)
-    first w q s h k = f.goes w q s h (λ hi. I.fetch λ lo. k (hi * 256 + lo)) ∙ ap (λ (y : Fetched). fetch_then y (λ hi. I.fetch λ lo. k (hi * 256 + lo)) x d w s) g
+    first w q s h k = f.goes w q s h (λ hi. I.fetch λ lo. k (hi * 256 + lo)) ∙ ap (λ (y : Option (ℕ × Depths)). fetch_then y (λ hi. I.fetch λ lo. k (hi * 256 + lo)) x d w s) g
 
-    pub word_half : {q : Fetched} → Fetches x n code e q → q ≡ Missing → FetchesWord x n code d Missing
+    pub word_half : {q : Option (ℕ × Depths)} → Fetches x n code e q → q ≡ None → FetchesWord x n code d None
     word_half {q} a b =
-        let z : FetchReady 256 1 Missing x e = rw b at a.ready in
+        let z : FetchReady 256 1 None x e = rw b at a.ready in
         let y : x.shape.size < d.ip + 1 + 1 = subst (λ (u : Depths). x.shape.size < u.ip + 1) facts.0 z in
         let o : max (d.ip + 1) x.shape.size ≡ max d.ip x.shape.size = omega (arith, facts.2, y) in
         record {
           goes = λ w p s h k.
-              first w p s h k ∙ a.goes w (moved w p) s h (λ lo. k (hi * 256 + lo)) ∙ ap (λ (u : Fetched). fetch_then u (λ lo. k (hi * 256 + lo)) x e w s) b
+              first w p s h k ∙ a.goes w (moved w p) s h (λ lo. k (hi * 256 + lo)) ∙ ap (λ (u : Option (ℕ × Depths)). fetch_then u (λ lo. k (hi * 256 + lo)) x e w s) b
               ∙ ap (λ (u : Depths). ended (P.failed ip_out_of_bounds) (View.on_stacks (with_ip (max u.ip x.shape.size) u) w s)) facts.0
               ∙ ap (λ (u : ℕ). ended (P.failed ip_out_of_bounds) (View.on_stacks (with_ip u d) w s)) o;
           ready = omega (arith, y);
         }
 
-    pub word_got : {q : Fetched} {lo : ℕ} {c : Depths} → Fetches x n code e q → q ≡ Got lo c → FetchesWord x n code d (Got (hi * 256 + lo) c)
+    pub word_got : {q : Option (ℕ × Depths)} {lo : ℕ} {c : Depths} → Fetches x n code e q → q ≡ Some (lo, c) → FetchesWord x n code d (Some ((hi * 256 + lo), c))
     word_got {q} {lo} {c} a b =
-        let z : FetchReady 256 1 (Got lo c) x e = rw b at a.ready in
+        let z : FetchReady 256 1 (Some (lo, c)) x e = rw b at a.ready in
         let y : c ≡ with_ip (d.ip + 1 + 1) d = z.0 ∙ ap (λ (u : Depths). with_ip (u.ip + 1) u) facts.0 in
         let t : d.ip + 1 + 1 ≤ x.shape.size = subst (λ (u : Depths). u.ip + 1 ≤ x.shape.size) facts.0 z.2 in
         let o : d.ip + 1 + 1 ≡ d.ip + 2 = omega arith in
         record {
-          goes = λ w p s h k. first w p s h k ∙ a.goes w (moved w p) s h (λ lo. k (hi * 256 + lo)) ∙ ap (λ (u : Fetched). fetch_then u (λ lo. k (hi * 256 + lo)) x e w s) b;
+          goes = λ w p s h k. first w p s h k ∙ a.goes w (moved w p) s h (λ lo. k (hi * 256 + lo)) ∙ ap (λ (u : Option (ℕ × Depths)). fetch_then u (λ lo. k (hi * 256 + lo)) x e w s) b;
           ready = (y ∙ ap (λ (u : ℕ). with_ip u d) o, omega (arith, facts.1, z.1), omega (arith, t));
         }
 
@@ -219,26 +216,26 @@ module _ (x : Running) (n : ℕ) (code : List ℕ) (d : Depths) where
     byte_small = facts.1
 
 -- What follows a fetch
-module _ {m width : ℕ} {reader : (ℕ → Program) → Program} {x : Running} {n : ℕ} {code : List ℕ} {d : Depths} {r : Fetched} (f : Reads m width reader x n code d r) where
-  pub got : {b : ℕ} {e : Depths} → r ≡ Got b e → FetchReady m width (Got b e) x d
+module _ {m width : ℕ} {reader : (ℕ → Program) → Program} {x : Running} {n : ℕ} {code : List ℕ} {d : Depths} {r : Option (ℕ × Depths)} (f : Reads m width reader x n code d r) where
+  pub got : {b : ℕ} {e : Depths} → r ≡ Some (b, e) → FetchReady m width (Some (b, e)) x d
   got g = rw g at f.ready
 
-  pub got_ready : {b : ℕ} {e : Depths} {w : List ℕ} → r ≡ Got b e → View.Ready d w → View.Ready e w
+  pub got_ready : {b : ℕ} {e : Depths} {w : List ℕ} → r ≡ Some (b, e) → View.Ready d w → View.Ready e w
   got_ready {b} {e} {w} g a = subst (λ (y : Depths). View.Ready y w) (sym (got g).0) (ready_ip (d.ip + width) a)
 
-  pub got_runs : {b : ℕ} {e : Depths} {w : List ℕ} → r ≡ Got b e → Runs x d w → Runs x e w
+  pub got_runs : {b : ℕ} {e : Depths} {w : List ℕ} → r ≡ Some (b, e) → Runs x d w → Runs x e w
   got_runs {b} {e} {w} g a = subst (λ (y : Depths). Runs x y w) (sym (got g).0) (runs_ip a (d.ip + width))
 
-  pub got_operands : {b : ℕ} {e : Depths} → r ≡ Got b e → e.operands ≡ d.operands
+  pub got_operands : {b : ℕ} {e : Depths} → r ≡ Some (b, e) → e.operands ≡ d.operands
   got_operands g = ap (λ (y : Depths). y.operands) (got g).0
 
   module _ {H : St.State → Type 0} (k : ℕ → Program) {w : List ℕ} (c : (s : St.State) → H s → Coded x n code s) (q : Runs x d w) where
-    pub after_fetch : {b : ℕ} {e : Depths} {y : Stepped} {w' : List ℕ} → r ≡ Got b e → Meets H (k b) e w y w' → Meets H (reader k) d w y w'
-    after_fetch g p = onward (λ s h. f.goes w q s (c s h) k ∙ ap (λ (u : Fetched). fetch_then u k x d w s) g) refl p
+    pub after_fetch : {b : ℕ} {e : Depths} {y : Stepped} {w' : List ℕ} → r ≡ Some (b, e) → Meets H (k b) e w y w' → Meets H (reader k) d w y w'
+    after_fetch g p = onward (λ s h. f.goes w q s (c s h) k ∙ ap (λ (u : Option (ℕ × Depths)). fetch_then u k x d w s) g) refl p
 
-    pub fetch_fails : {y : Stepped} → r ≡ Missing → y ≡ cut_of x d → Meets H (reader k) d w y w
+    pub fetch_fails : {y : Stepped} → r ≡ None → y ≡ cut_of x d → Meets H (reader k) d w y w
     fetch_fails g e = subst (λ (u : Stepped). Meets H (reader k) d w u w) (sym e) (record {
-      goes = λ s h. f.goes w q s (c s h) k ∙ ap (λ (u : Fetched). fetch_then u k x d w s) g;
+      goes = λ s h. f.goes w q s (c s h) k ∙ ap (λ (u : Option (ℕ × Depths)). fetch_then u k x d w s) g;
       kept = tt;
     })
 

@@ -7,7 +7,7 @@ ghost use Rattle.stacks.specs.View.{Ready};
 ghost use Rattle.fetch.specs.Running.{byte_in, Fetches, FetchesWord, Known, Current, cut_of};
 
 use image::FunctionTemplate;
-use outcome::{Stepped, failed, with_ip};
+use outcome::{Stepped, failed};
 use stacks::Depths;
 use value::JsVmError;
 
@@ -17,12 +17,6 @@ pub struct Running {
     pub image: u64,
     pub template: u64,
     pub shape: FunctionTemplate,
-}
-
-#[derive(Clone, Copy)]
-pub enum Fetched {
-    Got(usize, Depths),
-    Missing,
 }
 
 pub fn find(rows: &[u16], starts: &[u16], images: usize, i: u64, t: u64) -> Running
@@ -56,19 +50,10 @@ pub fn current(
     let at = stacks::FRAMES_AT + 5 * (k - 1);
     let i = stacks[at];
     let t = stacks[at + 1];
-    if i != x.image {
-        return find(rows, starts, images, i, t);
+    if i == x.image && t == x.template {
+        return x;
     }
-    if t != x.template {
-        return find(rows, starts, images, i, t);
-    }
-    x
-}
-
-fn wide(b: u8) -> usize
-    ensures { (result ≡ b) × (result < 256) }
-{
-    b as usize
+    find(rows, starts, images, i, t)
 }
 
 // Byte at + p of the n that are loaded, or 0.
@@ -76,46 +61,39 @@ pub fn byte_at(code: &[u8], n: usize, at: usize, p: usize) -> usize
     requires { n ≤ length code.now }
     ensures { (result ≡ byte_in code.now n (at + p)) × (result < 256) }
 {
-    if n <= at {
+    if n <= at || n - at <= p {
         return 0;
     }
-    if n - at <= p {
-        return 0;
-    }
-    wide(code[at + p])
+    usize::from(code[at + p])
 }
 
 // `read_byte`
-pub fn fetch(x: Running, d: Depths, code: &[u8], n: usize) -> Fetched
+pub fn fetch(x: Running, d: Depths, code: &[u8], n: usize) -> Option<(usize, Depths)>
     requires { n ≤ length code.now }
     ensures { Fetches x n code.now d result }
 {
     let p = d.ip;
     if x.shape.size <= p {
-        return Fetched::Missing;
+        return None;
     }
-    Fetched::Got(byte_at(code, n, x.shape.at, p), with_ip(d, p + 1))
+    Some((byte_at(code, n, x.shape.at, p), d.with_ip(p + 1)))
 }
 
 // `read_u16`
-pub fn fetch_word(x: Running, d: Depths, code: &[u8], n: usize) -> Fetched
+pub fn fetch_word(x: Running, d: Depths, code: &[u8], n: usize) -> Option<(usize, Depths)>
     requires { n ≤ length code.now }
     ensures { FetchesWord x n code.now d result }
 {
-    let Fetched::Got(hi, e) = fetch(x, d, code, n) else {
-        return Fetched::Missing;
-    };
-    let Fetched::Got(lo, f) = fetch(x, e, code, n) else {
-        return Fetched::Missing;
-    };
-    Fetched::Got(hi * 256 + lo, f)
+    let (hi, e) = fetch(x, d, code, n)?;
+    let (lo, f) = fetch(x, e, code, n)?;
+    Some((hi * 256 + lo, f))
 }
 
 // The operand bytes that were there are read.
 pub fn past_end(x: Running, d: Depths) -> Depths
     ensures { result ≡ with_ip (max d.ip x.shape.size) d }
 {
-    with_ip(d, stacks::greater(d.ip, x.shape.size))
+    d.with_ip(d.ip.max(x.shape.size))
 }
 
 // Error 14

@@ -1,5 +1,5 @@
 -- What is left to do follows the machine's program: one law for each way that it goes. Assumes nothing.
-use Rattle.std.specs.Prelude.{ℕ, ◌+◌, ◌≤◌, List, [], ◌≡◌, refl, length, get_or}
+use Rattle.std.specs.Prelude.{ℕ, ◌+◌, ◌≤◌, List, [], ◌≡◌, refl, length, get_or, Result}
 use Rattle.std.proofs.Common.{sym, ap, subst, ◌∙◌}
 use Rattle.machine.specs.Image as Im
 use Rattle.machine.specs.State as St
@@ -17,7 +17,6 @@ use Rattle.stacks.specs.View as Stacks
 use Rattle.stacks.specs.declared.Depths.{Depths}
 use Rattle.outcome.specs.Meets as Part
 use Rattle.outcome.specs.Meets.{Meets, Any, stepped, registers, joins, prints}
-use Rattle.outcome.specs.declared.End.{End}
 use Rattle.outcome.specs.declared.Part.{Part}
 use Rattle.outcome.specs.declared.Part.TheVariants.{Went, Ended, Refused, Register, Join, Print, More}
 use Rattle.outcome.specs.declared.Stepped.{Stepped}
@@ -31,6 +30,7 @@ use Rattle.heapops.specs.declared.How.TheVariants.{Went as How-as-Went, Ended as
 use Rattle.heapops.specs.declared.Turned.{Turned}
 use Rattle.heapops.specs.Turns.{Mem, mem, below, state_of, with_depths, turned, Loaded, Tells, KeptOf, Turns}
 use Rattle.finish.specs.Parts.{part_out, told, Tables, Ground, Looks, LeftReady, MoreReady, LeftBy, steady_of, with_stacks, Completes, Finishes}
+use Rattle.value.specs.declared.JsVmError.{JsVmError}
 
 -- what the state holds
 module _ {x : Running} {c : Counts} {g : Tables} where
@@ -125,7 +125,7 @@ module _ {H : St.State → Type 0} {c : Counts} {r : Stepped} where
   pub done_went : {m : Mem} {t : Turned} → r.how ≡ Went → t ≡ turned (with_depths r.depths c) How-as-Went → Completes H c m r t m
   done_went {m} e f = subst (λ (t : Turned). Completes H c m r t m) (sym f) (as_part e (record { goes = λ s i. refl; kept = λ w k. tt }))
 
-  pub done_ended : {m : Mem} {q : End} → r.how ≡ Ended q → Completes H c m r (turned (with_depths r.depths c) (How-as-Ended q)) m
+  pub done_ended : {m : Mem} {q : Result Value JsVmError} → r.how ≡ Ended q → Completes H c m r (turned (with_depths r.depths c) (How-as-Ended q)) m
   done_ended {m} e = as_part e (record { goes = λ s i. refl; kept = λ w k. tt })
 
   pub done_refused : {m : Mem} {q : Space} {t : Turned} → r.how ≡ Refused q → t ≡ turned (with_depths r.depths c) (How-as-Refused q) → Completes H c m r t m

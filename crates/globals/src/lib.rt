@@ -1,33 +1,43 @@
 //! Set global and read global.
 #![tactic(auto)]
 
-ghost use Rattle.std.specs.Prelude.{◌≡◌};
-ghost use Rattle.machine.specs.Act.{plain, as_bytes};
+ghost use Rattle.std.specs.Prelude.{◌≡◌, ◌≤◌, length};
+ghost use Rattle.machine.specs.Act.{put_global};
 ghost use Rattle.machine.specs.Host as Host;
-ghost use Rattle.value.specs.Words.{value_of};
+ghost use Rattle.texts.specs.Keeps.{text_limit};
+ghost use Rattle.heap.specs.View.{Sized};
+ghost use Rattle.objects.specs.View.{Puts};
 ghost use Rattle.heapops.specs.Turns.{mem};
 ghost use Rattle.finish.specs.Parts.{tables};
 ghost use Rattle.host.specs.Calls.{Called, answer_of_changed, counts_of_changed, answer_of_read};
-ghost use Rattle.globals.specs.Globals.{settled};
+ghost use Rattle.host.specs.Givens.{given_of};
 
+use heap::Sizes;
 use heapops::Counts;
-use host::questions::{handle_fine, is_ascii, lent};
-use host::{Changed, GlobalRead};
-use objects::Placed;
+use host::{Given, Refusal, questions};
 use texts::Source;
-use value::Value;
+use value::{Space, Value};
 
-// What came of the store to a global.
-fn settle(c: Counts, r: Placed) -> Changed
-    ensures { result ≡ settled c r }
+// A global under a name: a text that is given as bytes is kept behind it.
+fn put(
+    z: Sizes,
+    heap: &mut [u64],
+    code: &[u8],
+    n: usize,
+    text: &mut [u8],
+    m: usize,
+    name: &[u8],
+    given: Given,
+) -> Result<(Sizes, usize), Space>
+    requires sized { Sized z heap.old }
+    requires n_in_bounds { (n ≤ length code.now) × (m ≤ text_limit) × (length text.old ≡ text_limit) }
+    ensures { Puts (put_global name.now (given_of given.entry)) z heap.old m text.old result heap.new text.new }
 {
-    match r {
-        Placed::Refused(q) => Changed::Refused(run::question(q)),
-        Placed::Went(z, m) => {
-            let mut e = c;
-            e.sizes = z;
-            e.text = m;
-            Changed::Done(e)
+    let key = Source::Buffer(name.len() as u64);
+    match given {
+        Given::Plain(v) => objects::put_global(z, heap, code, n, text, m, name, key, v),
+        Given::Bytes(bytes) => {
+            objects::put_global_text(z, heap, code, n, text, m, name, key, bytes)
         }
     }
 }
@@ -43,54 +53,20 @@ pub fn set_global(
     output: &[u8],
     c: Counts,
     name: &[u8],
-    v: Value,
-) -> Changed
-    ensures { Called (Host.set_global name.now (plain (value_of v))) c (tables code.now places.now rows.now starts.now) (mem stacks.now heap.old text.old output.now) (answer_of_changed result) (counts_of_changed c result) (tables code.now places.now rows.now starts.now) (mem stacks.now heap.new text.new output.now) }
+    given: Given,
+) -> Result<Counts, Refusal>
+    ensures { Called (Host.set_global name.now (given_of given.entry)) c (tables code.now places.now rows.now starts.now) (mem stacks.now heap.old text.old output.now) (answer_of_changed result) (counts_of_changed c result) (tables code.now places.now rows.now starts.now) (mem stacks.now heap.new text.new output.now) }
 {
-    if lent(code, places, rows, starts, stacks, heap, text, output, c) {
-        if is_ascii(name) {
-            if handle_fine(code, c.code, text, c.text, v) {
-                let key = Source::Buffer(name.len() as u64);
-                let r = objects::put_global(
-                    c.sizes, heap, code, c.code, text, c.text, name, key, v,
-                );
-                return settle(c, r);
-            }
-            return Changed::Refused(30);
-        }
-        return Changed::Refused(29);
-    }
-    Changed::Refused(33)
-}
-
-pub fn set_global_text(
-    code: &[u8],
-    places: &[u16],
-    rows: &[u16],
-    starts: &[u16],
-    stacks: &[u64],
-    heap: &mut [u64],
-    text: &mut [u8],
-    output: &[u8],
-    c: Counts,
-    name: &[u8],
-    given: &[u8],
-) -> Changed
-    ensures { Called (Host.set_global name.now (as_bytes given.now)) c (tables code.now places.now rows.now starts.now) (mem stacks.now heap.old text.old output.now) (answer_of_changed result) (counts_of_changed c result) (tables code.now places.now rows.now starts.now) (mem stacks.now heap.new text.new output.now) }
-{
-    if lent(code, places, rows, starts, stacks, heap, text, output, c) {
-        if is_ascii(name) {
-            if is_ascii(given) {
-                let key = Source::Buffer(name.len() as u64);
-                let r = objects::put_global_text(
-                    c.sizes, heap, code, c.code, text, c.text, name, key, given,
-                );
-                return settle(c, r);
-            }
-        }
-        return Changed::Refused(29);
-    }
-    Changed::Refused(33)
+    questions::lent(code, places, rows, starts, stacks, heap, text, output, c)?;
+    questions::ascii(name)?;
+    given.ascii()?;
+    given.handle(code, c.code, text, c.text)?;
+    let (sizes, used) = put(c.sizes, heap, code, c.code, text, c.text, name, given)?;
+    Ok(Counts {
+        sizes,
+        text: used,
+        ..c
+    })
 }
 
 pub fn read_global(
@@ -104,15 +80,10 @@ pub fn read_global(
     output: &[u8],
     c: Counts,
     name: &[u8],
-) -> GlobalRead
+) -> Result<Value, Refusal>
     ensures { Called (Host.read_global name.now) c (tables code.now places.now rows.now starts.now) (mem stacks.now heap.now text.now output.now) (answer_of_read result) c (tables code.now places.now rows.now starts.now) (mem stacks.now heap.now text.now output.now) }
 {
-    if lent(code, places, rows, starts, stacks, heap, text, output, c) {
-        if is_ascii(name) {
-            let n = c.sizes.globals;
-            return GlobalRead::Valued(heap::global(text, c.text, heap, n, name));
-        }
-        return GlobalRead::Refused(29);
-    }
-    GlobalRead::Refused(33)
+    questions::lent(code, places, rows, starts, stacks, heap, text, output, c)?;
+    questions::ascii(name)?;
+    Ok(heap::global(text, c.text, heap, c.sizes.globals, name))
 }

@@ -1,5 +1,5 @@
 -- What a write into the heap does to the state. Assumes nothing.
-use Rattle.std.specs.Prelude.{ℕ, zero, suc, ◌+◌, ◌*◌, ◌≤◌, ◌<◌, List, [], ◌∷◌, ◌++◌, ◌≡◌, refl, length, get_or}
+use Rattle.std.specs.Prelude.{ℕ, zero, suc, ◌+◌, ◌*◌, ◌≤◌, ◌<◌, List, [], ◌∷◌, ◌++◌, ◌≡◌, refl, length, get_or, Some, None, Ok, Err}
 use native.Mathlib.Omega.{arith}
 use Rattle.std.proofs.Math.Option.{some}
 use Rattle.std.proofs.Math.Path.{sym}
@@ -19,8 +19,6 @@ use Rattle.value.specs.declared.Value.{Value}
 use Rattle.value.specs.declared.Space.TheVariants.{Functions, Objects}
 use Rattle.heap.specs.Layout.{function_limit, object_limit, objects_at, properties_at, globals_at, heap_words}
 use Rattle.heap.specs.declared.Sizes.{Sizes}
-use Rattle.heap.specs.declared.Grown.TheVariants.{Went, Refused}
-use Rattle.heap.specs.declared.Registered.TheVariants.{Known, Unknown}
 use Rattle.heap.specs.declared.ObjectType.TheVariants.{Ordinary, Array, NoObject}
 use Rattle.heap.specs.View
 use Rattle.heap.specs.View.{Sized, functions_of, objects_of, properties_of, globals_of, on_heap, Row}
@@ -111,13 +109,13 @@ module _ (z : Sizes) (w : List ℕ) (good : Sized z w) where
         get_or-set_other (set w (2 * z.functions) i) (2 * z.functions + 1) j t 0 (λ e. h (omega arith) (omega arith)) ∙ get_or-set_other w (2 * z.functions) j i 0 (λ e. h (omega arith) (omega arith));
   }
 
-  pub function_full : (i t : ℕ) → function_limit ≤ z.functions → View.Grows (A.add_function i t) z w (Refused Functions) w
+  pub function_full : (i t : ℕ) → function_limit ≤ z.functions → View.Grows (A.add_function i t) z w (Err Functions) w
   function_full i t h = record {
     goes = λ s p. out_refused (on_heap z w s) (A.add_function i t) p St.function_store refl (Asked.no (rw (row_length, lt-leb (z.functions + 1) function_limit (omega arith))));
     ready = refl;
   }
 
-  pub function_went : (i t : ℕ) (w' : List ℕ) → z.functions < function_limit → w' ≡ functioned i t → View.Grows (A.add_function i t) z w (Went (with_functions (z.functions + 1) z)) w'
+  pub function_went : (i t : ℕ) (w' : List ℕ) → z.functions < function_limit → w' ≡ functioned i t → View.Grows (A.add_function i t) z w (Ok (with_functions (z.functions + 1) z)) w'
   function_went i t w' h e = rw e (record {
     goes = λ s p.
         out_make (on_heap z w s) (A.add_function i t) p refl (Asked.yes (rw (row_length, le-leb (z.functions + 1) function_limit (omega arith))) Asked.all)
@@ -141,13 +139,13 @@ module _ (z : Sizes) (w : List ℕ) (good : Sized z w) where
       more = one_more n (λ j. View.function_at x (0 + 2 * j)) f (function_new i t h) ∙ ap (λ (fs : List St.Function). fs ++ f ∷ []) (functions_kept w x n (apart_below a 0 (0 + 2 * n) (omega arith)))
 
   pub function_known : (i image template : ℕ) → i < z.functions → image ≡ get_or w (2 * i) 0 → template ≡ get_or w (2 * i + 1) 0
-      → View.function_in (Known image template) ≡ get_elem? (functions_of w z.functions) i
+      → View.function_in (Some (image, template)) ≡ get_elem? (functions_of w z.functions) i
   unfolding View.function_at
   function_known i image template h p q =
       let e : 0 + 2 * i ≡ 2 * i = omega arith in
       sym (elem_at z.functions i (λ j. View.function_at w (0 + 2 * j)) h ∙ rw (e, p, q))
 
-  pub function_unknown : (i : ℕ) → z.functions ≤ i → View.function_in Unknown ≡ get_elem? (functions_of w z.functions) i
+  pub function_unknown : (i : ℕ) → z.functions ≤ i → View.function_in None ≡ get_elem? (functions_of w z.functions) i
   function_unknown i h = sym (elem_past z.functions i (λ j. View.function_at w (0 + 2 * j)) h)
 
   -- Objects
@@ -176,13 +174,13 @@ module _ (z : Sizes) (w : List ℕ) (good : Sized z w) where
       more : objects_of x (n + 1) ≡ objects_of w n ++ View.kind_of k ∷ []
       more = one_more n (λ j. View.kind_at x (objects_at + 1 * j)) (View.kind_of k) (kind_new k h) ∙ ap (λ (os : List St.Kind). os ++ View.kind_of k ∷ []) (objects_kept w x n (apart_below a objects_at (objects_at + 1 * n) (omega arith)))
 
-  pub object_full : object_limit ≤ z.objects → View.Grows A.add_object z w (Refused Objects) w
+  pub object_full : object_limit ≤ z.objects → View.Grows A.add_object z w (Err Objects) w
   object_full h = record {
     goes = λ s p. out_refused (on_heap z w s) A.add_object p St.object_store refl (Asked.no (rw (row_length, lt-leb (z.objects + 1) object_limit (omega arith))));
     ready = refl;
   }
 
-  pub object_went : (r : Sizes) (w' : List ℕ) → z.objects < object_limit → View.Gives (A.add_kind St.ordinary) z w r w' → View.Grows A.add_object z w (Went r) w'
+  pub object_went : (r : Sizes) (w' : List ℕ) → z.objects < object_limit → View.Gives (A.add_kind St.ordinary) z w r w' → View.Grows A.add_object z w (Ok r) w'
   object_went r w' h g = record {
     goes = λ s p. out_make (on_heap z w s) A.add_object p refl (Asked.yes (rw (row_length, le-leb (z.objects + 1) object_limit (omega arith))) Asked.all) ∙ sym (ap (out p) (g.state s));
     ready = g.ready;

@@ -1,25 +1,23 @@
 -- Search in rows: the machine's `any`, `first` and `change_first` by the index of the first row that passes a test. Assumes nothing.
 use Prim.Native.Nat.{ℕ, zero, suc, ◌+◌, ◌≤◌, ◌<◌}
 use Rattle.std.proofs.Common.{arith, eq-or-lt_of_le, inl, inr, sym, ap, ◌∙◌}
-use Rattle.std.specs.Prelude.{◌⊎◌, Bool, true, false, ◌||◌, ◌≡◌}
+use Rattle.std.specs.Prelude.{◌⊎◌, Bool, true, false, ◌||◌, ◌≡◌, Option, Some, None}
 use Rattle.std.proofs.Math.Option.{none, some}
 use Rattle.std.proofs.Math.Path.{refl}
 use Rattle.std.proofs.Math.ListN.{get_elem?}
 use Rattle.machine.specs.State as St
 use Rattle.value.specs.Lists.{row_of, row_ext}
-use Rattle.heap.specs.declared.Found.{Found}
-use Rattle.heap.specs.declared.Found.TheVariants.{At, Nothing}
 
 -- no row below n passes
 pub record Below (t : ℕ → Bool) (n : ℕ) : Type 0 where
   pub at : (j : ℕ) → j < n → t j ≡ false
 
-abbrev pub Told : (ℕ → Bool) → ℕ → Found → Type 0
-Told t n (At i) = (i < n) × (t i ≡ true) × Below t i
-Told t n Nothing = Below t n
+abbrev pub Told : (ℕ → Bool) → ℕ → Option ℕ → Type 0
+Told t n (Some i) = (i < n) × (t i ≡ true) × Below t i
+Told t n None = Below t n
 
 -- the first row below n that passes
-pub record Finds (t : ℕ → Bool) (n : ℕ) (r : Found) : Type 0 where
+pub record Finds (t : ℕ → Bool) (n : ℕ) (r : Option ℕ) : Type 0 where
   pub told : Told t n r
 
 pub below_none : (t : ℕ → Bool) → Below t 0
@@ -35,25 +33,25 @@ below_more {t} {i} b x e f = record { at = λ j h. at j (eq-or-lt_of_le (le j h)
     at j (inl q) = ap t q ∙ sym e ∙ f
     at j (inr l) = b.at j l
 
-pub found_none : {t : ℕ → Bool} {i n : ℕ} → Below t i → n ≤ i → Finds t n Nothing
+pub found_none : {t : ℕ → Bool} {i n : ℕ} → Below t i → n ≤ i → Finds t n None
 found_none b h = record { told = record { at = λ j l. b.at j (omega arith) } }
 
-pub found_within : {t : ℕ → Bool} {n i : ℕ} {r : Found} → Finds t n r → r ≡ At i → i < n
-found_within {t} {n} {i} {r} f e = let x : Told t n (At i) = rw e at f.told in x.0
+pub found_within : {t : ℕ → Bool} {n i : ℕ} {r : Option ℕ} → Finds t n r → r ≡ Some i → i < n
+found_within {t} {n} {i} {r} f e = let x : Told t n (Some i) = rw e at f.told in x.0
 
-pub finds_ext : {t t' : ℕ → Bool} {n : ℕ} {r : Found} → ((i : ℕ) → t i ≡ t' i) → Finds t n r → Finds t' n r
+pub finds_ext : {t t' : ℕ → Bool} {n : ℕ} {r : Option ℕ} → ((i : ℕ) → t i ≡ t' i) → Finds t n r → Finds t' n r
 finds_ext {t} {t'} {n} {r} e f = record { told = go r f.told }
   where
-    go : (r : Found) → Told t n r → Told t' n r
-    go (At i) x = (x.0, sym (e i) ∙ x.1, record { at = λ j h. sym (e j) ∙ x.2.at j h })
-    go Nothing x = record { at = λ j h. sym (e j) ∙ x.at j h }
+    go : (r : Option ℕ) → Told t n r → Told t' n r
+    go (Some i) x = (x.0, sym (e i) ∙ x.1, record { at = λ j h. sym (e j) ∙ x.2.at j h })
+    go None x = record { at = λ j h. sym (e j) ∙ x.at j h }
 
 or_true : (x : Bool) → x || true ≡ true
 or_true true = refl
 or_true false = refl
 
 -- THE LAW OF SEARCH: what an answer says of a list of rows
-module _ {A : Type 0} (t : A → Bool) (n : ℕ) (f : ℕ → A) (r : Found) (h : Finds (λ i. t (f i)) n r) where
+module _ {A : Type 0} (t : A → Bool) (n : ℕ) (f : ℕ → A) (r : Option ℕ) (h : Finds (λ i. t (f i)) n r) where
   any_at : (n i : ℕ) (f : ℕ → A) → i < n → t (f i) ≡ true → St.any t (row_of n f) ≡ true
   unfolding row_of
   any_at zero i f l e = absurd (omega arith)
@@ -65,16 +63,16 @@ module _ {A : Type 0} (t : A → Bool) (n : ℕ) (f : ℕ → A) (r : Found) (h 
   any_none zero f b = refl
   any_none (suc n) f b = rw (b 0 (omega arith)) (any_none n (λ k. f (suc k)) (λ j l. b (suc j) (omega arith)))
 
-  told_at : (i : ℕ) → r ≡ At i → Told (λ j. t (f j)) n (At i)
+  told_at : (i : ℕ) → r ≡ Some i → Told (λ j. t (f j)) n (Some i)
   told_at i e = rw e at h.told
 
-  told_none : r ≡ Nothing → Below (λ j. t (f j)) n
+  told_none : r ≡ None → Below (λ j. t (f j)) n
   told_none e = rw e at h.told
 
-  pub found_any : (i : ℕ) → r ≡ At i → St.any t (row_of n f) ≡ true
+  pub found_any : (i : ℕ) → r ≡ Some i → St.any t (row_of n f) ≡ true
   found_any i e = any_at n i f (told_at i e).0 (told_at i e).1
 
-  pub found_no : r ≡ Nothing → St.any t (row_of n f) ≡ false
+  pub found_no : r ≡ None → St.any t (row_of n f) ≡ false
   found_no e = any_none n f (told_none e).at
 
   module _ {B : Type 0} (g : A → B) (d : B) where
@@ -89,10 +87,10 @@ module _ {A : Type 0} (t : A → Bool) (n : ℕ) (f : ℕ → A) (r : Found) (h 
     first_none zero f b = refl
     first_none (suc n) f b = rw (b 0 (omega arith)) (first_none n (λ k. f (suc k)) (λ j l. b (suc j) (omega arith)))
 
-    pub found_first : (i : ℕ) → r ≡ At i → St.first t g d (row_of n f) ≡ g (f i)
+    pub found_first : (i : ℕ) → r ≡ Some i → St.first t g d (row_of n f) ≡ g (f i)
     found_first i e = let x = told_at i e in first_at n i f x.0 x.1 x.2.at
 
-    pub found_default : r ≡ Nothing → St.first t g d (row_of n f) ≡ d
+    pub found_default : r ≡ None → St.first t g d (row_of n f) ≡ d
     found_default e = first_none n f (told_none e).at
 
   -- only the first row that passes is changed
@@ -109,7 +107,7 @@ module _ {A : Type 0} (t : A → Bool) (n : ℕ) (f : ℕ → A) (r : Found) (h 
         change_at n i (λ k. f (suc k)) (λ k. f' (suc k)) (omega arith) e (λ j q. b (suc j) (omega arith)) x (λ j q. y (suc j) (λ z. q (omega arith))) in
         rw (b 0 (omega arith), y 0 (λ z. omega arith), rest)
 
-    pub found_change : (i : ℕ) (f' : ℕ → A) → r ≡ At i → f' i ≡ g (f i) → ((j : ℕ) → (j ≡ i → ⊥) → f' j ≡ f j) → row_of n f' ≡ St.change_first t g (row_of n f)
+    pub found_change : (i : ℕ) (f' : ℕ → A) → r ≡ Some i → f' i ≡ g (f i) → ((j : ℕ) → (j ≡ i → ⊥) → f' j ≡ f j) → row_of n f' ≡ St.change_first t g (row_of n f)
     found_change i f' e x y = let q = told_at i e in change_at n i f f' q.0 q.1 q.2.at x y
 
 -- a row by its number

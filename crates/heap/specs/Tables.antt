@@ -1,5 +1,5 @@
 -- THE LAW OF TABLES, for properties and globals alike: a row changed, and a row added. Assumes nothing.
-use Rattle.std.specs.Prelude.{ℕ, ◌+◌, ◌*◌, ◌≤◌, ◌<◌, Bool, List, [], ◌∷◌, ◌++◌, ◌≡◌, refl, length}
+use Rattle.std.specs.Prelude.{ℕ, ◌+◌, ◌*◌, ◌≤◌, ◌<◌, Bool, List, [], ◌∷◌, ◌++◌, ◌≡◌, refl, length, Some}
 use Rattle.std.proofs.Common.{arith, sym, ap, ◌∙◌, length-set}
 use Rattle.machine.specs.State as St
 use Rattle.value.specs.Arena.{Same, Apart, apart_below, rows_kept, set3, set3_apart, set3_first, set3_second, set3_third}
@@ -8,7 +8,6 @@ use Rattle.value.specs.Words.{value_of, set_value, value_same, value_reads, valu
 use Rattle.value.specs.declared.Value.{Value}
 use Rattle.heap.specs.View.{Row, row_at, set_row, with_value, table_of}
 use Rattle.heap.specs.Rows.{Finds, found_change}
-use Rattle.heap.specs.declared.Found.TheVariants.{At}
 
 -- a row is read from its own words
 pub row_reads : (w w' : List ℕ) (k : ℕ) → Same w w' k (k + 6) → row_at w' k ≡ row_at w k
@@ -48,13 +47,13 @@ module _ {A : Type 0} (f : Row → A) (base : ℕ) (w : List ℕ) (n : ℕ) wher
   table_kept w' a = rows_kept (λ w k. f (row_at w k)) base 6 (λ w w' k a. ap f (row_reads w w' k a)) w w' n a
 
   -- v in the first row that passes; g does to what a row says what the new value does to the row
-  pub table_changed : (t : A → Bool) (g : A → A) (i : ℕ) (v : Value) → Finds (λ j. t (f (row_at w (base + 6 * j)))) n (At i) → base + 6 * n ≤ length w
+  pub table_changed : (t : A → Bool) (g : A → A) (i : ℕ) (v : Value) → Finds (λ j. t (f (row_at w (base + 6 * j)))) n (Some i) → base + 6 * n ≤ length w
       → ((r : Row) → g (f r) ≡ f (with_value (value_of v) r))
       → table_of f base (set_value w (base + 6 * i + 3) v) n ≡ St.change_first t g (table_of f base w n)
   table_changed t g i v h l q =
       let k = base + 6 * i in
       let w' = set_value w (k + 3) v in
-      found_change t n (λ j. f (row_at w (base + 6 * j))) (At i) h g i (λ j. f (row_at w' (base + 6 * j))) refl
+      found_change t n (λ j. f (row_at w (base + 6 * j))) (Some i) h g i (λ j. f (row_at w' (base + 6 * j))) refl
       (ap f (row_changed w k v (omega (arith, h.told.0))) ∙ sym (q (row_at w k)))
       (λ j d. ap f (row_reads w w' (base + 6 * j) (λ x a b. (value_apart w (k + 3) v).at x (λ c e. other j x d a b c e))))
     where

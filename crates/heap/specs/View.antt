@@ -1,7 +1,7 @@
 -- The machine's functions, objects, properties and globals in one list of words, at the places of Layout.antt.
 -- Every list of words stands for a heap, whatever its words are. Assumes nothing.
-use Rattle.std.specs.Prelude.{ℕ, zero, suc, ◌+◌, ◌*◌, ◌≤◌, List, [], ◌≡◌, length, get_or}
-use Rattle.std.proofs.Math.Option.{Option, none, some}
+use Rattle.std.specs.Prelude.{ℕ, zero, suc, ◌+◌, ◌*◌, ◌≤◌, List, [], ◌≡◌, length, get_or, Option, Some, None, Result, Ok, Err}
+use Rattle.std.proofs.Math.Option.{Option as Maybe, none, some}
 use Rattle.machine.specs.Value as M
 use Rattle.machine.specs.State as St
 use Rattle.machine.specs.Act as A
@@ -14,12 +14,9 @@ use Rattle.value.specs.Words.{value_at, set_value}
 use Rattle.value.specs.declared.Value.{Value}
 use Rattle.heap.specs.Layout.{function_limit, object_limit, property_limit, global_limit, objects_at, properties_at, globals_at, heap_words}
 use Rattle.heap.specs.declared.Sizes.{Sizes}
-use Rattle.heap.specs.declared.Grown.{Grown}
-use Rattle.heap.specs.declared.Grown.TheVariants.{Went, Refused}
-use Rattle.heap.specs.declared.Registered.{Registered}
-use Rattle.heap.specs.declared.Registered.TheVariants.{Known, Unknown}
 use Rattle.heap.specs.declared.ObjectType.{ObjectType}
 use Rattle.heap.specs.declared.ObjectType.TheVariants.{Ordinary, Array, NoObject}
+use Rattle.value.specs.declared.Space.{Space}
 
 unfoldable pub function_at : List ℕ → ℕ → St.Function
 function_at w k = record { image = get_or w k 0; template = get_or w (k + 1) 0 }
@@ -110,15 +107,15 @@ pub record Sized (z : Sizes) (w : List ℕ) : Type 0 where
 
 -- The contract of an act on the heap: whatever program p follows, and whatever the rest of the state is, the program that makes the act and goes on as p
 -- comes to what the answer says. A refusal leaves the words.
-abbrev pub grown_then : Grown → Program → List ℕ → St.State → Out
-grown_then (Went y) p w s = out p (on_heap y w s)
-grown_then (Refused q) p w s = refused (space_of q)
+abbrev pub grown_then : Result Sizes Space → Program → List ℕ → St.State → Out
+grown_then (Ok y) p w s = out p (on_heap y w s)
+grown_then (Err q) p w s = refused (space_of q)
 
-abbrev pub GrownReady : Grown → List ℕ → List ℕ → Type 0
-GrownReady (Went y) w w' = Sized y w'
-GrownReady (Refused q) w w' = w' ≡ w
+abbrev pub GrownReady : Result Sizes Space → List ℕ → List ℕ → Type 0
+GrownReady (Ok y) w w' = Sized y w'
+GrownReady (Err q) w w' = w' ≡ w
 
-pub record Grows (a : A.Act) (z : Sizes) (w : List ℕ) (r : Grown) (w' : List ℕ) : Type 0 where
+pub record Grows (a : A.Act) (z : Sizes) (w : List ℕ) (r : Result Sizes Space) (w' : List ℕ) : Type 0 where
   pub goes : (s : St.State) (p : Program) → out (make a p) (on_heap z w s) ≡ grown_then r p w' s
   pub ready : GrownReady r w w'
 
@@ -128,11 +125,11 @@ pub record Gives (t : St.State → St.State) (z : Sizes) (w : List ℕ) (r : Siz
   pub ready : Sized r w'
 
 -- what is read, as the machine looks it up
-abbrev pub function_in : Registered → Option St.Function
-function_in (Known i t) = some (record { image = i; template = t })
-function_in Unknown = none
+abbrev pub function_in : Option (ℕ × ℕ) → Maybe St.Function
+function_in (Some (i, t)) = some (record { image = i; template = t })
+function_in None = none
 
-abbrev pub kind_in : ObjectType → Option St.Kind
+abbrev pub kind_in : ObjectType → Maybe St.Kind
 kind_in Ordinary = some St.ordinary
 kind_in Array = some St.array
 kind_in NoObject = none

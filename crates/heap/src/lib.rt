@@ -52,55 +52,36 @@ pub struct Sizes {
 }
 
 #[derive(Clone, Copy)]
-pub enum Grown {
-    Went(Sizes),
-    Refused(Space),
-}
-
-// A function's image and template.
-#[derive(Clone, Copy)]
-pub enum Registered {
-    Known(u64, u64),
-    Unknown,
-}
-
-#[derive(Clone, Copy)]
 pub enum ObjectType {
     Ordinary,
     Array,
     NoObject,
 }
 
-#[derive(Clone, Copy)]
-pub enum Found {
-    At(usize),
-    Nothing,
-}
-
-pub fn add_function(z: Sizes, heap: &mut [u64], image: u64, template: u64) -> Grown
+pub fn add_function(z: Sizes, heap: &mut [u64], image: u64, template: u64) -> Result<Sizes, Space>
     requires { Sized z heap.old }
     ensures { Grows (add_function image template) z heap.old result heap.new }
 {
     let n = z.functions;
     if FUNCTION_LIMIT <= n {
-        return Grown::Refused(Space::Functions);
+        return Err(Space::Functions);
     }
     heap[2 * n] = image;
     heap[2 * n + 1] = template;
     let mut y = z;
     y.functions = n + 1;
-    Grown::Went(y)
+    Ok(y)
 }
 
-pub fn function(z: Sizes, heap: &[u64], i: u64) -> Registered
+pub fn function(z: Sizes, heap: &[u64], i: u64) -> Option<(u64, u64)>
     requires { Sized z heap.now }
     ensures { function_in result ≡ get_elem? (functions_of heap.now z.functions) i }
 {
     if z.functions as u64 <= i {
-        return Registered::Unknown;
+        return None;
     }
     let k = i as usize;
-    Registered::Known(heap[2 * k], heap[2 * k + 1])
+    Some((heap[2 * k], heap[2 * k + 1]))
 }
 
 // A new object, of which there is room: 0 is an ordinary one, 1 an array.
@@ -116,14 +97,14 @@ pub fn add_kind(z: Sizes, heap: &mut [u64], kind: u64) -> Sizes
     y
 }
 
-pub fn add_object(z: Sizes, heap: &mut [u64]) -> Grown
+pub fn add_object(z: Sizes, heap: &mut [u64]) -> Result<Sizes, Space>
     requires { Sized z heap.old }
     ensures { Grows add_object z heap.old result heap.new }
 {
     if OBJECT_LIMIT <= z.objects {
-        return Grown::Refused(Space::Objects);
+        return Err(Space::Objects);
     }
-    Grown::Went(add_kind(z, heap, 0))
+    Ok(add_kind(z, heap, 0))
 }
 
 pub fn object_type(z: Sizes, heap: &[u64], id: u64) -> ObjectType
@@ -202,32 +183,32 @@ pub fn find_property(
     count: usize,
     owner: u64,
     key: &[u8],
-) -> Found
+) -> Option<usize>
     requires { (m ≤ length text.now) × (count ≤ property_limit) × (length heap.now ≡ heap_words) }
     ensures { Finds (pair_at (bytes_of text.now m) heap.now owner key.now) count result }
 {
     let mut i: usize = 0;
     while i < count {
         if is_pair(text, m, heap, PROPERTIES_AT + 6 * i, owner, key) {
-            return Found::At(i);
+            return Some(i);
         }
         i += 1;
     }
-    Found::Nothing
+    None
 }
 
-pub fn find_global(text: &[u8], m: usize, heap: &[u64], count: usize, name: &[u8]) -> Found
+pub fn find_global(text: &[u8], m: usize, heap: &[u64], count: usize, name: &[u8]) -> Option<usize>
     requires { (m ≤ length text.now) × (count ≤ global_limit) × (length heap.now ≡ heap_words) }
     ensures { Finds (name_at (bytes_of text.now m) heap.now name.now) count result }
 {
     let mut i: usize = 0;
     while i < count {
         if is_named(text, m, heap, GLOBALS_AT + 6 * i, name) {
-            return Found::At(i);
+            return Some(i);
         }
         i += 1;
     }
-    Found::Nothing
+    None
 }
 
 // The value of a property, or Undefined.
@@ -235,7 +216,7 @@ pub fn property(text: &[u8], m: usize, heap: &[u64], count: usize, owner: u64, k
     requires { (m ≤ length text.now) × (count ≤ property_limit) × (length heap.now ≡ heap_words) }
     ensures { (c : List ℕ) → value_of result ≡ property_in (stores c (bytes_of text.now m)) (properties_of heap.now count) owner key.now }
 {
-    let Found::At(i) = find_property(text, m, heap, count, owner, key) else {
+    let Some(i) = find_property(text, m, heap, count, owner, key) else {
         return Value::Undefined;
     };
     value::read(heap, PROPERTIES_AT + 6 * i + 3)
@@ -246,7 +227,7 @@ pub fn global(text: &[u8], m: usize, heap: &[u64], count: usize, name: &[u8]) ->
     requires { (m ≤ length text.now) × (count ≤ global_limit) × (length heap.now ≡ heap_words) }
     ensures { (c : List ℕ) → value_of result ≡ global_in (stores c (bytes_of text.now m)) (globals_of heap.now count) name.now }
 {
-    let Found::At(i) = find_global(text, m, heap, count, name) else {
+    let Some(i) = find_global(text, m, heap, count, name) else {
         return Value::Undefined;
     };
     value::read(heap, GLOBALS_AT + 6 * i + 3)

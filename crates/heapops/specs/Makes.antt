@@ -1,5 +1,5 @@
 -- Something made before the push: a function, an object, a text, a printed line, an array. Assumes nothing.
-use Rattle.std.specs.Prelude.{ℕ, ◌+◌, ◌-◌, ◌*◌, min, List, ◌++◌, reverse, ◌≡◌, refl, length, get_or, take}
+use Rattle.std.specs.Prelude.{ℕ, ◌+◌, ◌-◌, ◌*◌, min, List, ◌++◌, reverse, ◌≡◌, refl, length, get_or, take, Option, Some, None, Result, Ok, Err}
 use Rattle.std.proofs.Common.{arith, sym, ap, subst, ◌∙◌}
 use Rattle.machine.specs.Value as M
 use Rattle.machine.specs.State as St
@@ -17,34 +17,24 @@ use Rattle.value.specs.declared.Value.TheVariants.{MadeText}
 use Rattle.texts.specs.Keeps.{text_limit, output_limit, on_text, on_output, Keeps, Prints, kept_then, keeps_act, prints_act, appended, full}
 use Rattle.texts.specs.Lines.{values_at}
 use Rattle.texts.specs.Sources.{stores_of}
-use Rattle.texts.specs.declared.Kept.{Kept}
-use Rattle.texts.specs.declared.Kept.TheVariants.{Went as Kept-as-Went, Refused as Kept-as-Refused}
 use Rattle.stacks.specs.View
 use Rattle.stacks.specs.Laws.{with_operands, truncated}
 use Rattle.stacks.specs.Popped.{taken_exactly}
 use Rattle.stacks.specs.declared.Depths.{Depths}
-use Rattle.stacks.specs.declared.Made.{Made}
-use Rattle.stacks.specs.declared.Popped.{Popped}
-use Rattle.stacks.specs.declared.Popped.TheVariants.{Took}
 use Rattle.heap.specs.Layout.{objects_at}
 use Rattle.heap.specs.View as Heap
 use Rattle.heap.specs.View.{Grows, grown_then, GrownReady, on_heap, objects_of}
 use Rattle.heap.specs.declared.Sizes.{Sizes}
-use Rattle.heap.specs.declared.Grown.{Grown}
-use Rattle.heap.specs.declared.Grown.TheVariants.{Went as Grown-as-Went, Refused as Grown-as-Refused}
 use Rattle.objects.specs.View.{Puts, placed_then, PlacedReady}
-use Rattle.objects.specs.declared.Placed.{Placed}
-use Rattle.objects.specs.declared.Placed.TheVariants.{Went as Placed-as-Went, Refused as Placed-as-Refused}
 use Rattle.outcome.specs.Meets.{Any, registers, joins, prints}
 use Rattle.fetch.specs.Running.{Runs, Coded, Fetches}
 use Rattle.fetch.specs.declared.Running.{Running}
-use Rattle.fetch.specs.declared.Fetched.{Fetched}
-use Rattle.fetch.specs.declared.Fetched.TheVariants.{Got}
 use Rattle.heapops.specs.Turns.{Mem, mem, below, state_of, with_depths, turned, settled_in, Loaded, Turns}
 use Rattle.heapops.specs.Follows.{any, drops, after_look, after_pop, after_fetch, refuses, pushes}
 use Rattle.heapops.specs.declared.Counts.{Counts}
 use Rattle.heapops.specs.declared.How.TheVariants.{Refused}
 use Rattle.heapops.specs.declared.Turned.{Turned}
+use Rattle.value.specs.declared.Stop.{Stop}
 
 abbrev pub with_sizes : Sizes → Counts → Counts
 with_sizes y c = record { depths = c.depths; sizes = y; code = c.code; images = c.images; text = c.text; output = c.output }
@@ -60,7 +50,7 @@ pub bytes_are : (n : ℕ) (code : List ℕ) (c : Counts) (m : Mem) (s : St.State
 bytes_are n code c m s h = ap (λ (u : List ℕ). record { code = u; text = bytes_of m.text c.text }) h
 
 -- The heap grows by an act whose number is pushed.
-module _ (c : Counts) (w h h' : List ℕ) (a : A.Act) (v : M.Value) (f : St.State → Program) {r : Grown} (g : Grows a c.sizes h r h')
+module _ (c : Counts) (w h h' : List ℕ) (a : A.Act) (v : M.Value) (f : St.State → Program) {r : Result Sizes Space} (g : Grows a c.sizes h r h')
     (e : (t o : List ℕ) (s : St.State) → f (state_of c (mem w h t o) s) ≡ make a (I.pushed v)) where
   grown : (t o : List ℕ) (s : St.State) → out (look f) (state_of c (mem w h t o) s) ≡ grown_then r (I.pushed v) h' (View.on_stacks c.depths w (on_text c.text t (on_output c.output o s)))
   grown t o s =
@@ -68,17 +58,17 @@ module _ (c : Counts) (w h h' : List ℕ) (a : A.Act) (v : M.Value) (f : St.Stat
       ∙ ap (λ (p : Program). out p (state_of c (mem w h t o) s)) (e t o s)
       ∙ g.goes (View.on_stacks c.depths w (on_text c.text t (on_output c.output o s))) (I.pushed v)
 
-  grow_refused : {q : Space} {x : Turned} → r ≡ Grown-as-Refused q → x ≡ turned c (Refused q) → (t o : List ℕ) → Turns Any (look f) c (mem w h t o) x (mem w h' t o)
+  grow_refused : {q : Space} {x : Turned} → r ≡ Err q → x ≡ turned c (Refused q) → (t o : List ℕ) → Turns Any (look f) c (mem w h t o) x (mem w h' t o)
   grow_refused {q} b z t o =
-      let same : h' ≡ h = subst (λ (u : Grown). GrownReady u h h') b g.ready in
-      refuses (λ s i. grown t o s ∙ ap (λ (u : Grown). grown_then u (I.pushed v) h' (View.on_stacks c.depths w (on_text c.text t (on_output c.output o s)))) b)
+      let same : h' ≡ h = subst (λ (u : Result Sizes Space). GrownReady u h h') b g.ready in
+      refuses (λ s i. grown t o s ∙ ap (λ (u : Result Sizes Space). grown_then u (I.pushed v) h' (View.on_stacks c.depths w (on_text c.text t (on_output c.output o s)))) b)
       (λ d s. ap (λ (u : List ℕ). state_of (with_depths d c) (mem w u t o) s) same) z
 
-  grow_pushed : {y : Sizes} {u : Made} {w' : List ℕ} {x : Turned} → r ≡ Grown-as-Went y → View.Makes (A.push v) c.depths w u w' → x ≡ settled_in (with_sizes y c) u
+  grow_pushed : {y : Sizes} {u : Result Depths Stop} {w' : List ℕ} {x : Turned} → r ≡ Ok y → View.Makes (A.push v) c.depths w u w' → x ≡ settled_in (with_sizes y c) u
       → (t o : List ℕ) → Turns Any (look f) c (mem w h t o) x (mem w' h' t o)
   grow_pushed {y} b k z t o =
       pushes (with_sizes y c) w h' t o
-      (λ s i. grown t o s ∙ ap (λ (u : Grown). grown_then u (I.pushed v) h' (View.on_stacks c.depths w (on_text c.text t (on_output c.output o s)))) b) k z
+      (λ s i. grown t o s ∙ ap (λ (u : Result Sizes Space). grown_then u (I.pushed v) h' (View.on_stacks c.depths w (on_text c.text t (on_output c.output o s)))) b) k z
 
 abbrev new_function : ℕ → ℕ → St.State → Program
 new_function i t s = make (A.add_function i t) (I.pushed (M.function (length s.functions)))
@@ -86,26 +76,26 @@ new_function i t s = make (A.add_function i t) (I.pushed (M.function (length s.f
 abbrev new_object : St.State → Program
 new_object s = make A.add_object (I.pushed (M.object (length s.objects)))
 
-module _ (c : Counts) (w h h' : List ℕ) {r : Grown} where
+module _ (c : Counts) (w h h' : List ℕ) {r : Result Sizes Space} where
   module _ {i t : ℕ} (g : Grows (A.add_function i t) c.sizes h r h') where
-    pub register_refused : {q : Space} {x : Turned} → r ≡ Grown-as-Refused q → x ≡ turned c (Refused q) → (u o : List ℕ) → Turns Any (registers i t) c (mem w h u o) x (mem w h' u o)
+    pub register_refused : {q : Space} {x : Turned} → r ≡ Err q → x ≡ turned c (Refused q) → (u o : List ℕ) → Turns Any (registers i t) c (mem w h u o) x (mem w h' u o)
     register_refused b z =
         grow_refused c w h h' (A.add_function i t) (M.function c.sizes.functions) (new_function i t) g
         (λ u o s. ap (λ (n : ℕ). make (A.add_function i t) (I.pushed (M.function n))) (row_length c.sizes.functions (λ j. Heap.function_at h (0 + 2 * j)))) b z
 
-    pub registered : {y : Sizes} {v : Made} {w' : List ℕ} {x : Turned} → r ≡ Grown-as-Went y → View.Makes (A.push (M.function c.sizes.functions)) c.depths w v w'
+    pub registered : {y : Sizes} {v : Result Depths Stop} {w' : List ℕ} {x : Turned} → r ≡ Ok y → View.Makes (A.push (M.function c.sizes.functions)) c.depths w v w'
         → x ≡ settled_in (with_sizes y c) v → (u o : List ℕ) → Turns Any (registers i t) c (mem w h u o) x (mem w' h' u o)
     registered b k z =
         grow_pushed c w h h' (A.add_function i t) (M.function c.sizes.functions) (new_function i t) g
         (λ u o s. ap (λ (n : ℕ). make (A.add_function i t) (I.pushed (M.function n))) (row_length c.sizes.functions (λ j. Heap.function_at h (0 + 2 * j)))) b k z
 
   module _ (g : Grows A.add_object c.sizes h r h') where
-    pub object_refused : {q : Space} {x : Turned} → r ≡ Grown-as-Refused q → x ≡ turned c (Refused q) → (u o : List ℕ) → Turns Any I.CreateObject c (mem w h u o) x (mem w h' u o)
+    pub object_refused : {q : Space} {x : Turned} → r ≡ Err q → x ≡ turned c (Refused q) → (u o : List ℕ) → Turns Any I.CreateObject c (mem w h u o) x (mem w h' u o)
     object_refused b z =
         grow_refused c w h h' A.add_object (M.object c.sizes.objects) new_object g
         (λ u o s. ap (λ (n : ℕ). make A.add_object (I.pushed (M.object n))) (row_length c.sizes.objects (λ j. Heap.kind_at h (objects_at + 1 * j)))) b z
 
-    pub object_made : {y : Sizes} {v : Made} {w' : List ℕ} {x : Turned} → r ≡ Grown-as-Went y → View.Makes (A.push (M.object c.sizes.objects)) c.depths w v w'
+    pub object_made : {y : Sizes} {v : Result Depths Stop} {w' : List ℕ} {x : Turned} → r ≡ Ok y → View.Makes (A.push (M.object c.sizes.objects)) c.depths w v w'
         → x ≡ settled_in (with_sizes y c) v → (u o : List ℕ) → Turns Any I.CreateObject c (mem w h u o) x (mem w' h' u o)
     object_made b k z =
         grow_pushed c w h h' A.add_object (M.object c.sizes.objects) new_object g
@@ -116,10 +106,10 @@ abbrev pub text_pushed : List ℕ → Program
 text_pushed bs = I.keeping bs λ t. I.pushed (M.text t)
 
 -- THE CONTRACT of the push of a text: whatever bytes were kept, with the answer k
-pub record PushesText (c : Counts) (d : Depths) (w : List ℕ) (k : Kept) (x : Turned) (w' : List ℕ) : Type 0 where
+pub record PushesText (c : Counts) (d : Depths) (w : List ℕ) (k : Option ℕ) (x : Turned) (w' : List ℕ) : Type 0 where
   pub turns : (bs t t' : List ℕ) → length t ≡ text_limit → Keeps bs c.text t k t' → (h o : List ℕ) → Turns Any (text_pushed bs) (with_depths d c) (mem w h t o) x (mem w' h t' o)
 
-module _ (c : Counts) (d : Depths) (w : List ℕ) {k : Kept} where
+module _ (c : Counts) (d : Depths) (w : List ℕ) {k : Option ℕ} where
   kept : (bs t t' : List ℕ) → length t ≡ text_limit → Keeps bs c.text t k t' → (h o : List ℕ) (s : St.State)
       → out (text_pushed bs) (state_of (with_depths d c) (mem w h t o) s)
       ≡ kept_then St.text_store k (I.pushed (M.text (record { store = M.in_text; at = c.text; size = length bs }))) (λ n. state_of (with_text n (with_depths d c)) (mem w h t' o) s)
@@ -129,40 +119,40 @@ module _ (c : Counts) (d : Depths) (w : List ℕ) {k : Kept} where
       (row_length c.text (λ i. get_or t i 0))
       ∙ keeps_act bs c.text t k t' (View.on_stacks d w (on_heap c.sizes h (on_output c.output o s))) (I.pushed (M.text (record { store = M.in_text; at = c.text; size = length bs }))) l a
 
-  pub text_refused : {x : Turned} → k ≡ Kept-as-Refused → x ≡ turned c (Refused Text) → PushesText c d w k x w
+  pub text_refused : {x : Turned} → k ≡ None → x ≡ turned c (Refused Text) → PushesText c d w k x w
   text_refused b z = record {
     turns = λ bs t t' l a h o.
         let p = I.pushed (M.text (record { store = M.in_text; at = c.text; size = length bs })) in
-        refuses (λ s i. kept bs t t' l a h o s ∙ ap (λ (u : Kept). kept_then St.text_store u p (λ n. state_of (with_text n (with_depths d c)) (mem w h t' o) s)) b)
+        refuses (λ s i. kept bs t t' l a h o s ∙ ap (λ (u : Option ℕ). kept_then St.text_store u p (λ n. state_of (with_text n (with_depths d c)) (mem w h t' o) s)) b)
         (λ e s. ap (λ (u : List ℕ). state_of (with_depths e c) (mem w h u o) s) (full a b).1) z;
   }
 
-  pub text_pushed_lem : {n size : ℕ} {u : Made} {w' : List ℕ} {x : Turned} → k ≡ Kept-as-Went n → size ≡ n - c.text → View.Makes (A.push (value_of (MadeText c.text size))) d w u w'
+  pub text_pushed_lem : {n size : ℕ} {u : Result Depths Stop} {w' : List ℕ} {x : Turned} → k ≡ Some n → size ≡ n - c.text → View.Makes (A.push (value_of (MadeText c.text size))) d w u w'
       → x ≡ settled_in (with_text n (with_depths d c)) u → PushesText c d w k x w'
   text_pushed_lem {n} {size} b f g z = record {
     turns = λ bs t t' l a h o.
         let p = I.pushed (M.text (record { store = M.in_text; at = c.text; size = length bs })) in
         let long : length bs ≡ size = omega (arith, (appended a b).0, f) in
         pushes (with_text n (with_depths d c)) w h t' o
-        (λ s i. kept bs t t' l a h o s ∙ ap (λ (u : Kept). kept_then St.text_store u p (λ n. state_of (with_text n (with_depths d c)) (mem w h t' o) s)) b
+        (λ s i. kept bs t t' l a h o s ∙ ap (λ (u : Option ℕ). kept_then St.text_store u p (λ n. state_of (with_text n (with_depths d c)) (mem w h t' o) s)) b
         ∙ ap (λ (j : ℕ). out (I.pushed (M.text (record { store = M.in_text; at = c.text; size = j }))) (state_of (with_text n (with_depths d c)) (mem w h t' o) s)) long)
         g z;
   }
 
 -- Add of texts, and Typeof
-pub joined : {c : Counts} {code w w' t t' : List ℕ} (a b : M.Value) {k : Kept} {x : Turned} → length t ≡ text_limit
+pub joined : {c : Counts} {code w w' t t' : List ℕ} (a b : M.Value) {k : Option ℕ} {x : Turned} → length t ≡ text_limit
     → Keeps (to_js_string (stores_of code c.code t c.text) a ++ to_js_string (stores_of code c.code t c.text) b) c.text t k t' → PushesText c c.depths w k x w'
     → (h o : List ℕ) → Turns (Loaded c.code code) (joins a b) c (mem w h t o) x (mem w' h t' o)
 joined {c} {code} {w} {w'} {t} {t'} a b l f p h o =
     after_look (λ s i. ap (λ (m : St.Bytes). text_pushed (to_js_string m a ++ to_js_string m b)) (bytes_are c.code code c (mem w h t o) s i.code))
     (any (p.turns (to_js_string (stores_of code c.code t c.text) a ++ to_js_string (stores_of code c.code t c.text) b) t t' l f h o))
 
-pub type_pushed : {c : Counts} {d : Depths} {w w' t t' : List ℕ} {q : Popped} {v : Value} {k : Kept} {x : Turned} → length t ≡ text_limit → View.Pops c.depths w q → q ≡ Took v d
+pub type_pushed : {c : Counts} {d : Depths} {w w' t t' : List ℕ} {q : Option (Value × Depths)} {v : Value} {k : Option ℕ} {x : Turned} → length t ≡ text_limit → View.Pops c.depths w q → q ≡ Some (v, d)
     → Keeps (js_typeof (value_of v)) c.text t k t' → PushesText c d w k x w' → (h o : List ℕ) → Turns Any I.Typeof c (mem w h t o) x (mem w' h t' o)
 type_pushed {c} {d} {w} {w'} {t} {t'} {q} {v} l f g a p h o = after_pop (λ v. text_pushed (js_typeof v)) f g (p.turns (js_typeof (value_of v)) t t' l a h o)
 
 -- Call of an object
-module _ (c : Counts) (code w t o o' : List ℕ) (argc : ℕ) {k : Kept} (l : length o ≡ output_limit)
+module _ (c : Counts) (code w t o o' : List ℕ) (argc : ℕ) {k : Option ℕ} (l : length o ≡ output_limit)
     (a : Prints (I.joined (stores_of code c.code t c.text) (values_at w (c.depths.operands + 1) argc)) c.output o k o') where
   printed : (h : List ℕ) (s : St.State) → Loaded c.code code s → out (prints (View.arguments w (c.depths.operands + 1) argc)) (state_of c (mem w h t o) s)
       ≡ kept_then St.output_store k (I.pushed M.undefined) (λ n. state_of (with_output n c) (mem w h t o') s)
@@ -172,24 +162,24 @@ module _ (c : Counts) (code w t o o' : List ℕ) (argc : ℕ) {k : Kept} (l : le
       ∙ ap (λ (m : St.Bytes). out (make (A.print (I.joined m args)) (I.pushed M.undefined)) (state_of c (mem w h t o) s)) (bytes_are c.code code c (mem w h t o) s i.code)
       ∙ prints_act (I.joined (stores_of code c.code t c.text) args) c.output o k o' (View.on_stacks c.depths w (on_heap c.sizes h (on_text c.text t s))) (I.pushed M.undefined) l a
 
-  pub print_refused : {x : Turned} → k ≡ Kept-as-Refused → x ≡ turned c (Refused Output) → (h : List ℕ)
+  pub print_refused : {x : Turned} → k ≡ None → x ≡ turned c (Refused Output) → (h : List ℕ)
       → Turns (Loaded c.code code) (prints (View.arguments w (c.depths.operands + 1) argc)) c (mem w h t o) x (mem w h t o')
   print_refused b z h =
-      refuses (λ s i. printed h s i ∙ ap (λ (u : Kept). kept_then St.output_store u (I.pushed M.undefined) (λ n. state_of (with_output n c) (mem w h t o') s)) b)
+      refuses (λ s i. printed h s i ∙ ap (λ (u : Option ℕ). kept_then St.output_store u (I.pushed M.undefined) (λ n. state_of (with_output n c) (mem w h t o') s)) b)
       (λ e s. ap (λ (u : List ℕ). state_of (with_depths e c) (mem w h t u) s) (full a b).1) z
 
-  pub print_pushed : {n : ℕ} {u : Made} {w' : List ℕ} {x : Turned} → k ≡ Kept-as-Went n → View.Makes (A.push M.undefined) c.depths w u w' → x ≡ settled_in (with_output n c) u → (h : List ℕ)
+  pub print_pushed : {n : ℕ} {u : Result Depths Stop} {w' : List ℕ} {x : Turned} → k ≡ Some n → View.Makes (A.push M.undefined) c.depths w u w' → x ≡ settled_in (with_output n c) u → (h : List ℕ)
       → Turns (Loaded c.code code) (prints (View.arguments w (c.depths.operands + 1) argc)) c (mem w h t o) x (mem w' h t o')
   print_pushed {n} b g z h =
       pushes (with_output n c) w h t o'
-      (λ s i. printed h s i ∙ ap (λ (u : Kept). kept_then St.output_store u (I.pushed M.undefined) (λ n. state_of (with_output n c) (mem w h t o') s)) b) g z
+      (λ s i. printed h s i ∙ ap (λ (u : Option ℕ). kept_then St.output_store u (I.pushed M.undefined) (λ n. state_of (with_output n c) (mem w h t o') s)) b) g z
 
 -- CreateArray
 abbrev pub with_three : Depths → Sizes → ℕ → Counts → Counts
 with_three d y k c = record { depths = d; sizes = y; code = c.code; images = c.images; text = k; output = c.output }
 
-module _ (x : Running) (c : Counts) (code w h h' t t' : List ℕ) {r : Fetched} {n : ℕ} {d : Depths} {from argc : ℕ} {u : Placed}
-    (f : Fetches x c.code code c.depths r) (q : Runs x c.depths w) (g : r ≡ Got n d) (a : from ≡ d.operands - n) (b : argc ≡ min n d.operands)
+module _ (x : Running) (c : Counts) (code w h h' t t' : List ℕ) {r : Option (ℕ × Depths)} {n : ℕ} {d : Depths} {from argc : ℕ} {u : Result (Sizes × ℕ) Space}
+    (f : Fetches x c.code code c.depths r) (q : Runs x c.depths w) (g : r ≡ Some (n, d)) (a : from ≡ d.operands - n) (b : argc ≡ min n d.operands)
     (k : Puts (A.add_array (I.exactly n (View.arguments w from argc))) c.sizes h c.text t u h' t') where
   arrayed : (e : Depths) → View.Truncates d n e → (o : List ℕ) (s : St.State) → out (I.create_array n) (state_of (with_depths d c) (mem w h t o) s)
       ≡ placed_then u (I.pushed (M.object c.sizes.objects)) h' t' (View.on_stacks e w (on_output c.output o s))
@@ -207,18 +197,18 @@ module _ (x : Running) (c : Counts) (code w h h' t t' : List ℕ) {r : Fetched} 
       (row_length c.sizes.objects (λ j. Heap.kind_at h (objects_at + 1 * j)))
       ∙ k.goes (View.on_stacks e w (on_output c.output o s)) (I.pushed (M.object c.sizes.objects))
 
-  pub array_refused : {p : Space} {y : Turned} → u ≡ Placed-as-Refused p → y ≡ turned c (Refused p) → (o : List ℕ)
+  pub array_refused : {p : Space} {y : Turned} → u ≡ Err p → y ≡ turned c (Refused p) → (o : List ℕ)
       → Turns (Coded x c.code code) I.CreateArray c (mem w h t o) y (mem w h' t' o)
   array_refused {p} z i o =
       let e = with_operands (d.operands - n) d in
-      let same : (h' ≡ h) × (t' ≡ t) = subst (λ (v : Placed). PlacedReady v h t h' t') z k.ready in
+      let same : (h' ≡ h) × (t' ≡ t) = subst (λ (v : Result (Sizes × ℕ) Space). PlacedReady v h t h' t') z k.ready in
       after_fetch f I.create_array (λ s v. v) q g
-      (refuses (λ s v. arrayed e (truncated d n (d.operands - n) refl) o s ∙ ap (λ (v : Placed). placed_then v (I.pushed (M.object c.sizes.objects)) h' t' (View.on_stacks e w (on_output c.output o s))) z)
+      (refuses (λ s v. arrayed e (truncated d n (d.operands - n) refl) o s ∙ ap (λ (v : Result (Sizes × ℕ) Space). placed_then v (I.pushed (M.object c.sizes.objects)) h' t' (View.on_stacks e w (on_output c.output o s))) z)
       (λ v s. ap (λ (y : List ℕ). state_of (with_depths v c) (mem w y t' o) s) same.0 ∙ ap (λ (y : List ℕ). state_of (with_depths v c) (mem w h y o) s) same.1) i)
 
-  pub array_made : {e : Depths} {z : Sizes} {m : ℕ} {v : Made} {w' : List ℕ} {y : Turned} → View.Truncates d n e → u ≡ Placed-as-Went z m → View.Makes (A.push (M.object c.sizes.objects)) e w v w'
+  pub array_made : {e : Depths} {z : Sizes} {m : ℕ} {v : Result Depths Stop} {w' : List ℕ} {y : Turned} → View.Truncates d n e → u ≡ Ok (z, m) → View.Makes (A.push (M.object c.sizes.objects)) e w v w'
       → y ≡ settled_in (with_three e z m c) v → (o : List ℕ) → Turns (Coded x c.code code) I.CreateArray c (mem w h t o) y (mem w' h' t' o)
   array_made {e} {z} {m} l b j i o =
       after_fetch f I.create_array (λ s v. v) q g
       (pushes (with_three e z m c) w h' t' o
-      (λ s v. arrayed e l o s ∙ ap (λ (v : Placed). placed_then v (I.pushed (M.object c.sizes.objects)) h' t' (View.on_stacks e w (on_output c.output o s))) b) j i)
+      (λ s v. arrayed e l o s ∙ ap (λ (v : Result (Sizes × ℕ) Space). placed_then v (I.pushed (M.object c.sizes.objects)) h' t' (View.on_stacks e w (on_output c.output o s))) b) j i)

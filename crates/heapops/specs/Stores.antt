@@ -1,6 +1,6 @@
 -- Stores into globals and properties. Assumes nothing.
-use Rattle.std.specs.Prelude.{ℕ, max, List, ◌≡◌, refl}
-use Rattle.std.proofs.Math.Option.{Option}
+use Rattle.std.specs.Prelude.{ℕ, max, List, ◌≡◌, refl, Option, Some, None, Result, Err}
+use Rattle.std.proofs.Math.Option.{Option as Maybe}
 use Rattle.std.proofs.Common.{sym, ap, ◌∙◌}
 use Rattle.std.proofs.Math.ListN.{get_elem?}
 use Rattle.machine.specs.Value as M
@@ -21,19 +21,11 @@ use Rattle.texts.specs.declared.Source.{Source}
 use Rattle.stacks.specs.View
 use Rattle.stacks.specs.Laws.{with_operands, with_ip}
 use Rattle.stacks.specs.declared.Depths.{Depths}
-use Rattle.stacks.specs.declared.Popped.{Popped}
-use Rattle.stacks.specs.declared.Popped.TheVariants.{Took, Empty}
 use Rattle.objects.specs.View.{Puts}
-use Rattle.objects.specs.declared.Placed.{Placed}
 use Rattle.arrays.specs.Sets.{Sets}
 use Rattle.outcome.specs.Meets.{Pairs}
-use Rattle.outcome.specs.declared.End.TheVariants.{Failed}
-use Rattle.outcome.specs.declared.Pair.{Pair}
-use Rattle.outcome.specs.declared.Pair.TheVariants.{Both, Short}
 use Rattle.fetch.specs.Running.{Runs, FetchesWord, current_is, got_runs}
 use Rattle.fetch.specs.declared.Running.{Running}
-use Rattle.fetch.specs.declared.Fetched.{Fetched}
-use Rattle.fetch.specs.declared.Fetched.TheVariants.{Got, Missing}
 use Rattle.readops.specs.Holds.{Constants}
 use Rattle.heapops.specs.Turns.{Mem, mem, below, state_of, with_depths, turned, placed_in, Loaded, Turns}
 use Rattle.heapops.specs.Follows.{after_look, after_pop, pop_fails, after_two, two_fail, after_fetch, fetch_fails, puts, left_of, left_put}
@@ -41,9 +33,11 @@ use Rattle.heapops.specs.Makes.{bytes_are}
 use Rattle.heapops.specs.declared.Counts.{Counts}
 use Rattle.heapops.specs.declared.How.TheVariants.{Ended}
 use Rattle.heapops.specs.declared.Turned.{Turned}
+use Rattle.value.specs.declared.Space.{Space}
+use Rattle.heap.specs.declared.Sizes.{Sizes}
 
 -- A name, from the code
-abbrev constant_in : Running → List ℕ → List ℕ → ℕ → Option Im.Constant
+abbrev constant_in : Running → List ℕ → List ℕ → ℕ → Maybe Im.Constant
 constant_in x code places i = get_elem? (constants_of code places x.shape.constants x.shape.constant_count) i
 
 abbrev by : (List ℕ → Program) → ℕ → Program
@@ -56,12 +50,12 @@ name_is x n code places c m q s h i =
     ∙ ap (λ (t : Im.Template). I.get_string_constant (stores_of code n m.text c.text) i (get_elem? t.constants i)) (current_is q (below c m s))
     ∙ ap (λ (cs : List Im.Constant). I.get_string_constant (stores_of code n m.text c.text) i (get_elem? cs i)) h.pooled.constants
 
-module _ {x : Running} {c : Counts} {code : List ℕ} (places : List ℕ) {w h t : List ℕ} {r : Fetched} (f : FetchesWord x c.code code c.depths r) (q : Runs x c.depths w) where
-  pub name_fails : (k : List ℕ → Program) {d : Depths} {y : Turned} → r ≡ Missing → d ≡ with_ip (max c.depths.ip x.shape.size) c.depths
-      → y ≡ turned (with_depths d c) (Ended (Failed IpOutOfBounds)) → (o : List ℕ) → Turns (Constants x c.code code places) (I.fetch_name k) c (mem w h t o) y (mem w h t o)
+module _ {x : Running} {c : Counts} {code : List ℕ} (places : List ℕ) {w h t : List ℕ} {r : Option (ℕ × Depths)} (f : FetchesWord x c.code code c.depths r) (q : Runs x c.depths w) where
+  pub name_fails : (k : List ℕ → Program) {d : Depths} {y : Turned} → r ≡ None → d ≡ with_ip (max c.depths.ip x.shape.size) c.depths
+      → y ≡ turned (with_depths d c) (Ended (Err IpOutOfBounds)) → (o : List ℕ) → Turns (Constants x c.code code places) (I.fetch_name k) c (mem w h t o) y (mem w h t o)
   name_fails k g b e o = fetch_fails f (by k) (λ s h. h.coded) q g b e
 
-  module _ {i : ℕ} {e : Depths} (g : r ≡ Got i e) where
+  module _ {i : ℕ} {e : Depths} (g : r ≡ Some (i, e)) where
     after_name : (k : List ℕ → Program) (key : List ℕ) {m' : Mem} {y : Turned} (o : List ℕ) → I.get_string_constant (stores_of code c.code t c.text) i (constant_in x code places i) ≡ key
         → Turns (Constants x c.code code places) (k key) (with_depths e c) (mem w h t o) y m' → Turns (Constants x c.code code places) (I.fetch_name k) c (mem w h t o) y m'
     after_name k key o z a =
@@ -69,20 +63,20 @@ module _ {x : Running} {c : Counts} {code : List ℕ} (places : List ℕ) {w h t
         (after_look (λ s b. ap k (name_is x c.code code places (with_depths e c) (mem w h t o) (got_runs f g q) s b i ∙ z)) a)
 
     -- no value stands
-    pub global_short : {u : Popped} {d : Depths} {y : Turned} → View.Pops e w u → u ≡ Empty → d ≡ with_operands 0 e → y ≡ turned (with_depths d c) (Ended (Failed StackUnderflow))
+    pub global_short : {u : Option (Value × Depths)} {d : Depths} {y : Turned} → View.Pops e w u → u ≡ None → d ≡ with_operands 0 e → y ≡ turned (with_depths d c) (Ended (Err StackUnderflow))
         → (o : List ℕ) → Turns (Constants x c.code code places) I.StoreGlobal c (mem w h t o) y (mem w h t o)
     global_short a b j l o =
         let key = I.get_string_constant (stores_of code c.code t c.text) i (constant_in x code places i) in
         after_name (λ n. I.pop λ v. make (A.put_global n (A.plain v)) next) key o refl (pop_fails (λ v. make (A.put_global key (A.plain v)) next) a b j l)
 
-    pub property_short : {u : Pair} {d : Depths} {y : Turned} → Pairs e w u → u ≡ Short → d ≡ with_operands 0 e → y ≡ turned (with_depths d c) (Ended (Failed StackUnderflow))
+    pub property_short : {u : Option (Value × Value × Depths)} {d : Depths} {y : Turned} → Pairs e w u → u ≡ None → d ≡ with_operands 0 e → y ≡ turned (with_depths d c) (Ended (Err StackUnderflow))
         → (o : List ℕ) → Turns (Constants x c.code code places) I.StoreProperty c (mem w h t o) y (mem w h t o)
     property_short a b j l o =
         let key = I.get_string_constant (stores_of code c.code t c.text) i (constant_in x code places i) in
         after_name (λ k. I.pop λ v. I.pop λ o. I.set_property o k v) key o refl (two_fail (λ o v. I.set_property o key v) a b j l)
 
-    module _ {src : Source} {buffer h' t' : List ℕ} {p : Placed} {d : Depths} {y : Turned} (sp : Spells (λ b. I.get_string_constant b i (constant_in x code places i)) src buffer) where
-      pub global_stored : {u : Popped} {v : Value} → View.Pops e w u → u ≡ Took v d
+    module _ {src : Source} {buffer h' t' : List ℕ} {p : Result (Sizes × ℕ) Space} {d : Depths} {y : Turned} (sp : Spells (λ b. I.get_string_constant b i (constant_in x code places i)) src buffer) where
+      pub global_stored : {u : Option (Value × Depths)} {v : Value} → View.Pops e w u → u ≡ Some (v, d)
           → Puts (A.put_global (source_bytes (stores_of code c.code t c.text) buffer src) (A.plain (value_of v))) c.sizes h c.text t p h' t' → y ≡ placed_in c d p
           → (o : List ℕ) → Turns (Constants x c.code code places) I.StoreGlobal c (mem w h t o) y (mem w h' t' o)
       global_stored {u} {v} a b j l o =
@@ -91,7 +85,7 @@ module _ {x : Running} {c : Counts} {code : List ℕ} (places : List ℕ) {w h t
           (after_pop (λ v. make (A.put_global key (A.plain v)) next) a b
           (puts c.depths d p (λ s z. j.goes (View.on_stacks d w (on_output c.output o s)) next) (left_put c.sizes h c.text t p h' t' j.ready) l))
 
-      pub property_stored : {u : Pair} {a v : Value} → Pairs e w u → u ≡ Both a v d
+      pub property_stored : {u : Option (Value × Value × Depths)} {a v : Value} → Pairs e w u → u ≡ Some (a, v, d)
           → Sets (value_of a) (source_bytes (stores_of code c.code t c.text) buffer src) (value_of v) c.sizes h c.text t p h' t' → y ≡ placed_in c d p
           → (o : List ℕ) → Turns (Constants x c.code code places) I.StoreProperty c (mem w h t o) y (mem w h' t' o)
       property_stored {u} {a} {v} k b j l o =
@@ -104,17 +98,17 @@ module _ {x : Running} {c : Counts} {code : List ℕ} (places : List ℕ) {w h t
 abbrev keyed : M.Value → M.Value → M.Value → Program
 keyed v o i = look λ s. I.set_property o (to_js_string (St.bytes s) i) v
 
-module _ {c : Counts} (code : List ℕ) {w h t : List ℕ} {r : Popped} {y : Turned} (f : View.Pops c.depths w r) where
-  pub index_empty : {d : Depths} → r ≡ Empty → d ≡ with_operands 0 c.depths → y ≡ turned (with_depths d c) (Ended (Failed StackUnderflow))
+module _ {c : Counts} (code : List ℕ) {w h t : List ℕ} {r : Option (Value × Depths)} {y : Turned} (f : View.Pops c.depths w r) where
+  pub index_empty : {d : Depths} → r ≡ None → d ≡ with_operands 0 c.depths → y ≡ turned (with_depths d c) (Ended (Err StackUnderflow))
       → (o : List ℕ) → Turns (Loaded c.code code) I.StoreIndex c (mem w h t o) y (mem w h t o)
   index_empty g b e o = pop_fails (λ v. I.pop λ i. I.pop λ o. keyed v o i) f g b e
 
-  module _ {v : Value} {e : Depths} (g : r ≡ Took v e) {u : Pair} {d : Depths} (k : Pairs e w u) where
-    pub index_short : u ≡ Short → d ≡ with_operands 0 e → y ≡ turned (with_depths d c) (Ended (Failed StackUnderflow))
+  module _ {v : Value} {e : Depths} (g : r ≡ Some (v, e)) {u : Option (Value × Value × Depths)} {d : Depths} (k : Pairs e w u) where
+    pub index_short : u ≡ None → d ≡ with_operands 0 e → y ≡ turned (with_depths d c) (Ended (Err StackUnderflow))
         → (o : List ℕ) → Turns (Loaded c.code code) I.StoreIndex c (mem w h t o) y (mem w h t o)
     index_short b j l o = after_pop (λ v. I.pop λ i. I.pop λ o. keyed v o i) f g (two_fail (keyed (value_of v)) k b j l)
 
-    pub index_stored : {a i : Value} {src : Source} {buffer h' t' : List ℕ} {p : Placed} → u ≡ Both a i d → Spells (λ b. to_js_string b (value_of i)) src buffer
+    pub index_stored : {a i : Value} {src : Source} {buffer h' t' : List ℕ} {p : Result (Sizes × ℕ) Space} → u ≡ Some (a, i, d) → Spells (λ b. to_js_string b (value_of i)) src buffer
         → Sets (value_of a) (source_bytes (stores_of code c.code t c.text) buffer src) (value_of v) c.sizes h c.text t p h' t' → y ≡ placed_in c d p
         → (o : List ℕ) → Turns (Loaded c.code code) I.StoreIndex c (mem w h t o) y (mem w h' t' o)
     index_stored {a} {i} {src} {buffer} {h'} {t'} {p} b sp j l o =

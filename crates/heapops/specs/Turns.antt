@@ -1,5 +1,5 @@
 -- The state that the lent stores hold, and the contract of whatever changes more than the stacks. Assumes nothing.
-use Rattle.std.specs.Prelude.{ℕ, List, ◌≡◌}
+use Rattle.std.specs.Prelude.{ℕ, List, ◌≡◌, Result, Ok, Err}
 use Rattle.machine.specs.State as St
 use Rattle.machine.specs.Program.{Program}
 use Rattle.machine.specs.Out.{Out, went, ended, refused, out}
@@ -8,18 +8,16 @@ use Rattle.value.specs.Lists.{bytes_of}
 use Rattle.texts.specs.Keeps.{on_text, on_output}
 use Rattle.stacks.specs.View.{on_stacks}
 use Rattle.stacks.specs.declared.Depths.{Depths}
-use Rattle.stacks.specs.declared.Made.{Made}
-use Rattle.stacks.specs.declared.Made.TheVariants.{Went as Made-as-Went, Failed as Made-as-Failed, Refused as Made-as-Refused}
 use Rattle.heap.specs.View.{on_heap}
 use Rattle.heap.specs.declared.Sizes.{Sizes}
-use Rattle.objects.specs.declared.Placed.{Placed}
-use Rattle.objects.specs.declared.Placed.TheVariants.{Went as Placed-as-Went, Refused as Placed-as-Refused}
 use Rattle.outcome.specs.Meets.{end_of}
-use Rattle.outcome.specs.declared.End.TheVariants.{Failed}
 use Rattle.heapops.specs.declared.Counts.{Counts}
 use Rattle.heapops.specs.declared.How.{How}
 use Rattle.heapops.specs.declared.How.TheVariants.{Went, Ended, Refused}
 use Rattle.heapops.specs.declared.Turned.{Turned}
+use Rattle.value.specs.declared.Stop.{Stop}
+use Rattle.value.specs.declared.Space.{Space}
+use Rattle.value.specs.declared.Stop.TheVariants.{Failed, Refused}
 
 -- the stores that a run writes
 pub record Mem : Type 0 where
@@ -49,14 +47,14 @@ abbrev pub turned : Counts → How → Turned
 turned c h = record { counts = c; how = h }
 
 -- the end of an instruction whose last act is a push, or one on the heap and the text
-abbrev pub settled_in : Counts → Made → Turned
-settled_in c (Made-as-Went d) = turned (with_depths d c) Went
-settled_in c (Made-as-Failed e) = turned c (Ended (Failed e))
-settled_in c (Made-as-Refused q) = turned c (Refused q)
+abbrev pub settled_in : Counts → Result Depths Stop → Turned
+settled_in c (Ok d) = turned (with_depths d c) Went
+settled_in c (Err (Failed e)) = turned c (Ended (Err e))
+settled_in c (Err (Refused q)) = turned c (Refused q)
 
-abbrev pub placed_in : Counts → Depths → Placed → Turned
-placed_in c d (Placed-as-Went y m) = turned (record { depths = d; sizes = y; code = c.code; images = c.images; text = m; output = c.output }) Went
-placed_in c d (Placed-as-Refused q) = turned c (Refused q)
+abbrev pub placed_in : Counts → Depths → Result (Sizes × ℕ) Space → Turned
+placed_in c d (Ok (y, m)) = turned (record { depths = d; sizes = y; code = c.code; images = c.images; text = m; output = c.output }) Went
+placed_in c d (Err q) = turned c (Refused q)
 
 -- The state s has n bytes of this code loaded.
 pub record Loaded (n : ℕ) (c : List ℕ) (s : St.State) : Type 0 where

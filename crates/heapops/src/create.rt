@@ -9,10 +9,7 @@ ghost use Rattle.fetch.specs.Running.{Runs, Coded};
 ghost use Rattle.heapops.specs.Turns.{Turns, mem};
 
 use crate::{Counts, Turned, failed, refused, settle_push};
-use fetch::{Fetched, Running, fetch, past_end};
-use heap::Grown;
-use objects::Placed;
-use stacks::{lesser, minus};
+use fetch::{Running, fetch, past_end};
 use value::{JsVmError, Value};
 
 // `register_function`
@@ -29,9 +26,9 @@ pub fn register(
 {
     let n = c.sizes.functions;
     match heap::add_function(c.sizes, heap, image, template) {
-        Grown::Refused(q) => refused(c, q),
-        Grown::Went(y) => {
-            let r = stacks::push(c.depths, stacks, Value::Function(n as u64));
+        Err(q) => refused(c, q),
+        Ok(y) => {
+            let r = c.depths.push(stacks, Value::Function(n as u64));
             let mut e = c;
             e.sizes = y;
             settle_push(e, r)
@@ -46,9 +43,9 @@ pub fn create_object(c: Counts, stacks: &mut [u64], heap: &mut [u64]) -> Turned
 {
     let n = c.sizes.objects;
     match heap::add_object(c.sizes, heap) {
-        Grown::Refused(q) => refused(c, q),
-        Grown::Went(y) => {
-            let r = stacks::push(c.depths, stacks, Value::Object(n as u64));
+        Err(q) => refused(c, q),
+        Ok(y) => {
+            let r = c.depths.push(stacks, Value::Object(n as u64));
             let mut e = c;
             e.sizes = y;
             settle_push(e, r)
@@ -71,18 +68,18 @@ pub fn create_array(
     requires text_le_text_limit { (c.text ≤ text_limit) × (length text.old ≡ text_limit) }
     ensures { (o : List ℕ) → Turns (Coded x c.code code.now) CreateArray c (mem stacks.old heap.old text.old o) result (mem stacks.new heap.new text.new o) }
 {
-    let Fetched::Got(count, d) = fetch(x, c.depths, code, c.code) else {
+    let Some((count, d)) = fetch(x, c.depths, code, c.code) else {
         return failed(c, past_end(x, c.depths), JsVmError::IpOutOfBounds);
     };
     let id = c.sizes.objects;
     let stand = d.operands;
-    let from = minus(stand, count);
-    let given = lesser(count, stand);
+    let from = stand.saturating_sub(count);
+    let given = count.min(stand);
     match arrays::add_array(c.sizes, heap, text, c.text, stacks, from, given, count) {
-        Placed::Refused(q) => refused(c, q),
-        Placed::Went(y, m) => {
-            let f = stacks::truncate(d, count);
-            let r = stacks::push(f, stacks, Value::Object(id as u64));
+        Err(q) => refused(c, q),
+        Ok((y, m)) => {
+            let f = d.truncate(count);
+            let r = f.push(stacks, Value::Object(id as u64));
             let mut e = c;
             e.depths = f;
             e.sizes = y;

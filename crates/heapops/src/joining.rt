@@ -9,21 +9,23 @@ ghost use Rattle.heapops.specs.Turns.{Turns, mem, Loaded};
 ghost use Rattle.heapops.specs.Makes.{PushesText};
 
 use crate::{Counts, Turned, failed, refused, settle_push};
-use outcome::with_operands;
-use stacks::{Depths, Popped, minus};
-use texts::{Kept, spell};
+use stacks::Depths;
+use texts::spell;
 use value::{JsVmError, Space, Value};
 
 // The text that was kept behind the bytes in use, pushed onto the operands of d.
-pub(crate) fn push_text(c: Counts, d: Depths, stacks: &mut [u64], k: Kept) -> Turned
+pub(crate) fn push_text(c: Counts, d: Depths, stacks: &mut [u64], k: Option<usize>) -> Turned
     requires { Ready d stacks.old }
     ensures { PushesText c d stacks.old k result stacks.new }
 {
-    let Kept::Went(m) = k else {
+    let Some(m) = k else {
         return refused(c, Space::Text);
     };
     let n = c.text;
-    let r = stacks::push(d, stacks, Value::MadeText(n as u64, minus(m, n) as u64));
+    let r = d.push(
+        stacks,
+        Value::MadeText(n as u64, m.saturating_sub(n) as u64),
+    );
     let mut e = c;
     e.depths = d;
     e.text = m;
@@ -54,8 +56,8 @@ pub fn type_of(c: Counts, code: &[u8], stacks: &mut [u64], text: &mut [u8]) -> T
     requires text_le_text_limit { (c.text ≤ text_limit) × (length text.old ≡ text_limit) }
     ensures { (h o : List ℕ) → Turns Any Typeof c (mem stacks.old h text.old o) result (mem stacks.new h text.new o) }
 {
-    let Popped::Took(v, d) = stacks::pop(c.depths, stacks) else {
-        return failed(c, with_operands(c.depths, 0), JsVmError::StackUnderflow);
+    let Some((v, d)) = c.depths.pop(stacks) else {
+        return failed(c, c.depths.with_operands(0), JsVmError::StackUnderflow);
     };
     let k = spell::keep_typeof(code, c.code, text, c.text, v);
     push_text(c, d, stacks, k)

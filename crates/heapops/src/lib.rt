@@ -2,14 +2,12 @@
 #![tactic(auto)]
 
 ghost use Rattle.std.specs.Prelude.{◌≡◌};
-ghost use Rattle.outcome.specs.declared.End.TheVariants.{Failed};
 ghost use Rattle.heapops.specs.Turns.{fresh_counts, with_depths, turned, settled_in};
 ghost use Rattle.heapops.specs.declared.How.TheVariants.{Went, Ended, Refused};
 
 use heap::Sizes;
-use outcome::End;
-use stacks::{Depths, Made};
-use value::{JsVmError, Space};
+use stacks::Depths;
+use value::{JsVmError, Space, Stop, Value};
 
 pub mod create;
 pub mod joining;
@@ -54,7 +52,7 @@ impl Counts {
 #[derive(Clone, Copy)]
 pub enum How {
     Went,
-    Ended(End),
+    Ended(Result<Value, JsVmError>),
     Refused(Space),
 }
 
@@ -92,24 +90,24 @@ pub fn refused(c: Counts, q: Space) -> Turned
 }
 
 pub fn failed(c: Counts, d: Depths, e: JsVmError) -> Turned
-    ensures { result ≡ turned (with_depths d c) (Ended (Failed e)) }
+    ensures { result ≡ turned (with_depths d c) (Ended (Err e)) }
 {
     Turned {
         counts: with_depths(c, d),
-        how: How::Ended(End::Failed(e)),
+        how: How::Ended(Err(e)),
     }
 }
 
 // The end of an instruction whose last act is a push.
-pub fn settle_push(c: Counts, r: Made) -> Turned
+pub fn settle_push(c: Counts, r: Result<Depths, Stop>) -> Turned
     ensures { result ≡ settled_in c r }
 {
     match r {
-        Made::Went(d) => went(with_depths(c, d)),
-        Made::Failed(e) => Turned {
+        Ok(d) => went(with_depths(c, d)),
+        Err(Stop::Failed(e)) => Turned {
             counts: c,
-            how: How::Ended(End::Failed(e)),
+            how: How::Ended(Err(e)),
         },
-        Made::Refused(q) => refused(c, q),
+        Err(Stop::Refused(q)) => refused(c, q),
     }
 }

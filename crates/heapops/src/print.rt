@@ -8,7 +8,6 @@ ghost use Rattle.outcome.specs.Meets.{prints};
 ghost use Rattle.heapops.specs.Turns.{Turns, mem, Loaded};
 
 use crate::{Counts, Turned, refused, settle_push};
-use texts::Kept;
 use value::{Space, Value};
 
 pub fn print<'a>(
@@ -30,10 +29,10 @@ pub fn print<'a>(
     let k = texts::output::print(
         code, c.code, text, c.text, stacks, from, argc, output, c.output,
     );
-    let Kept::Went(o) = k else {
+    let Some(o) = k else {
         return refused(c, Space::Output);
     };
-    let r = stacks::push(d, stacks, Value::Undefined);
+    let r = d.push(stacks, Value::Undefined);
     let mut e = c;
     e.output = o;
     settle_push(e, r)

@@ -9,22 +9,22 @@ ghost use Rattle.readops.specs.Holds.{Constants};
 ghost use Rattle.heapops.specs.Turns.{Turns, mem, Loaded, placed_in};
 
 use crate::{Counts, Turned, failed, refused, went};
-use fetch::{Fetched, Running, fetch_word, past_end};
+use fetch::{Running, fetch_word, past_end};
+use heap::Sizes;
 use number::format::LONGEST_TEXT;
-use objects::Placed;
-use outcome::{Pair, pop_two, with_operands};
+use outcome::pop_two;
 use readops::constants::name;
-use stacks::{Depths, Popped};
+use stacks::Depths;
 use texts::spell;
-use value::JsVmError;
+use value::{JsVmError, Space};
 
 // The end of an instruction whose last act is on the heap and the text; d is what it leaves of the stacks.
-pub(crate) fn settle_placed(c: Counts, d: Depths, r: Placed) -> Turned
+pub(crate) fn settle_placed(c: Counts, d: Depths, r: Result<(Sizes, usize), Space>) -> Turned
     ensures { result ≡ placed_in c d r }
 {
     match r {
-        Placed::Refused(q) => refused(c, q),
-        Placed::Went(y, m) => {
+        Err(q) => refused(c, q),
+        Ok((y, m)) => {
             let mut e = c;
             e.depths = d;
             e.sizes = y;
@@ -50,11 +50,11 @@ pub fn store_global(
     requires text_le_text_limit { (c.text ≤ text_limit) × (length text.old ≡ text_limit) }
     ensures { (o : List ℕ) → Turns (Constants x c.code code.now places.now) StoreGlobal c (mem stacks.now heap.old text.old o) result (mem stacks.now heap.new text.new o) }
 {
-    let Fetched::Got(i, d) = fetch_word(x, c.depths, code, c.code) else {
+    let Some((i, d)) = fetch_word(x, c.depths, code, c.code) else {
         return failed(c, past_end(x, c.depths), JsVmError::IpOutOfBounds);
     };
-    let Popped::Took(v, e) = stacks::pop(d, stacks) else {
-        return failed(c, with_operands(d, 0), JsVmError::StackUnderflow);
+    let Some((v, e)) = d.pop(stacks) else {
+        return failed(c, d.with_operands(0), JsVmError::StackUnderflow);
     };
     let mut buffer = [0; LONGEST_TEXT];
     let key = name(x, code, places, i, &mut buffer);
@@ -78,11 +78,11 @@ pub fn store_property(
     requires text_le_text_limit { (c.text ≤ text_limit) × (length text.old ≡ text_limit) }
     ensures { (o : List ℕ) → Turns (Constants x c.code code.now places.now) StoreProperty c (mem stacks.now heap.old text.old o) result (mem stacks.now heap.new text.new o) }
 {
-    let Fetched::Got(i, d) = fetch_word(x, c.depths, code, c.code) else {
+    let Some((i, d)) = fetch_word(x, c.depths, code, c.code) else {
         return failed(c, past_end(x, c.depths), JsVmError::IpOutOfBounds);
     };
-    let Pair::Both(target, v, e) = pop_two(d, stacks) else {
-        return failed(c, with_operands(d, 0), JsVmError::StackUnderflow);
+    let Some((target, v, e)) = pop_two(d, stacks) else {
+        return failed(c, d.with_operands(0), JsVmError::StackUnderflow);
     };
     let mut buffer = [0; LONGEST_TEXT];
     let key = name(x, code, places, i, &mut buffer);
@@ -105,11 +105,11 @@ pub fn store_index(
     requires text_le_text_limit { (c.text ≤ text_limit) × (length text.old ≡ text_limit) }
     ensures { (o : List ℕ) → Turns (Loaded c.code code.now) StoreIndex c (mem stacks.now heap.old text.old o) result (mem stacks.now heap.new text.new o) }
 {
-    let Popped::Took(v, d) = stacks::pop(c.depths, stacks) else {
-        return failed(c, with_operands(c.depths, 0), JsVmError::StackUnderflow);
+    let Some((v, d)) = c.depths.pop(stacks) else {
+        return failed(c, c.depths.with_operands(0), JsVmError::StackUnderflow);
     };
-    let Pair::Both(target, i, e) = pop_two(d, stacks) else {
-        return failed(c, with_operands(d, 0), JsVmError::StackUnderflow);
+    let Some((target, i, e)) = pop_two(d, stacks) else {
+        return failed(c, d.with_operands(0), JsVmError::StackUnderflow);
     };
     let mut buffer = [0; LONGEST_TEXT];
     let key = spell::to_js_string(i, &mut buffer);

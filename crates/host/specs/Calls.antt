@@ -1,5 +1,5 @@
 -- The host calls' contracts: equations with the machine's `perform`. Assumes nothing.
-use Rattle.std.specs.Prelude.{ℕ, Bool, true, false, ◌&&◌, List, ◌≡◌, eqb, leb, length}
+use Rattle.std.specs.Prelude.{ℕ, Bool, true, false, ◌&&◌, List, ◌≡◌, eqb, leb, length, Result, Ok, Err}
 use Rattle.machine.specs.State as St
 use Rattle.machine.specs.State.{limit, operand_limit, code_store, image_store}
 use Rattle.machine.specs.Host as H
@@ -16,18 +16,11 @@ use Rattle.heapops.specs.declared.Counts.{Counts}
 use Rattle.heapops.specs.Turns.{Mem}
 use Rattle.finish.specs.Parts.{Tables}
 use Rattle.run.specs.Runs.{state_in, result_of, Placed}
-use Rattle.host.specs.declared.Changed.{Changed}
-use Rattle.host.specs.declared.Changed.TheVariants.{Done as Changed-as-Done, Refused as Changed-as-Refused}
-use Rattle.host.specs.declared.Numbered.{Numbered}
-use Rattle.host.specs.declared.Numbered.TheVariants.{Done as Numbered-as-Done, Refused as Numbered-as-Refused}
-use Rattle.host.specs.declared.GlobalRead.{GlobalRead}
-use Rattle.host.specs.declared.GlobalRead.TheVariants.{Valued as Read-as-Valued, Refused as Read-as-Refused}
-use Rattle.host.specs.declared.RunAnswer.{RunAnswer}
-use Rattle.host.specs.declared.RunAnswer.TheVariants.{Ran as Run-as-Ran, Refused as Run-as-Refused}
-use Rattle.host.specs.declared.Wrote.{Wrote}
-use Rattle.host.specs.declared.Wrote.TheVariants.{Bytes as Wrote-as-Bytes, Refused as Wrote-as-Refused}
-use Rattle.host.specs.declared.Drained.{Drained}
-use Rattle.host.specs.declared.Drained.TheVariants.{Bytes as Drained-as-Bytes, Refused as Drained-as-Refused}
+use Rattle.host.specs.declared.refusal.Refusal.{Refusal}
+use Rattle.host.specs.declared.refusal.Refusal.TheVariants.{StoreSizes}
+use Rattle.host.specs.Refusals.{number_of}
+use Rattle.run.specs.declared.Ran.{Ran}
+use Rattle.value.specs.declared.Value.{Value}
 
 -- Question 33: the stores have their listed sizes,
 abbrev pub sizes_are : ℕ → ℕ → ℕ → ℕ → ℕ → ℕ → ℕ → ℕ → Bool
@@ -93,54 +86,54 @@ buffer_by (H.wrote bs) b = overwrite b 0 bs
 pub record Buffered (answer : H.Answer) (b b' : List ℕ) : Type 0 where
   pub bytes : b' ≡ buffer_by answer b
 
--- Document 01's answer for each case of the enums, and the counts that it leaves.
-abbrev pub answer_of_numbered : Numbered → H.Answer
-answer_of_numbered (Numbered-as-Done i c) = H.numbered i
-answer_of_numbered (Numbered-as-Refused n) = H.refusal n
+-- Document 01's answer for each result, and the counts that it leaves.
+abbrev pub answer_of_numbered : Result (ℕ × Counts) Refusal → H.Answer
+answer_of_numbered (Ok (i, c)) = H.numbered i
+answer_of_numbered (Err e) = H.refusal (number_of e)
 
-abbrev pub counts_of_numbered : Counts → Numbered → Counts
-counts_of_numbered c (Numbered-as-Done i e) = e
-counts_of_numbered c (Numbered-as-Refused n) = c
+abbrev pub counts_of_numbered : Counts → Result (ℕ × Counts) Refusal → Counts
+counts_of_numbered c (Ok (i, d)) = d
+counts_of_numbered c (Err e) = c
 
-abbrev pub answer_of_changed : Changed → H.Answer
-answer_of_changed (Changed-as-Done c) = H.done
-answer_of_changed (Changed-as-Refused n) = H.refusal n
+abbrev pub answer_of_changed : Result Counts Refusal → H.Answer
+answer_of_changed (Ok c) = H.done
+answer_of_changed (Err e) = H.refusal (number_of e)
 
-abbrev pub counts_of_changed : Counts → Changed → Counts
-counts_of_changed c (Changed-as-Done e) = e
-counts_of_changed c (Changed-as-Refused n) = c
+abbrev pub counts_of_changed : Counts → Result Counts Refusal → Counts
+counts_of_changed c (Ok d) = d
+counts_of_changed c (Err e) = c
 
-abbrev pub answer_of_read : GlobalRead → H.Answer
-answer_of_read (Read-as-Valued v) = H.valued (value_of v)
-answer_of_read (Read-as-Refused n) = H.refusal n
+abbrev pub answer_of_read : Result Value Refusal → H.Answer
+answer_of_read (Ok v) = H.valued (value_of v)
+answer_of_read (Err e) = H.refusal (number_of e)
 
-abbrev pub answer_of_run : RunAnswer → H.Answer
-answer_of_run (Run-as-Ran r) = H.ran (result_of r.end) r.steps
-answer_of_run (Run-as-Refused n) = H.refusal n
+abbrev pub answer_of_run : Result Ran Refusal → H.Answer
+answer_of_run (Ok r) = H.ran (result_of r.end) r.steps
+answer_of_run (Err e) = H.refusal (number_of e)
 
-abbrev pub counts_of_run : Counts → RunAnswer → Counts
-counts_of_run c (Run-as-Ran r) = r.counts
-counts_of_run c (Run-as-Refused n) = c
+abbrev pub counts_of_run : Counts → Result Ran Refusal → Counts
+counts_of_run c (Ok r) = r.counts
+counts_of_run c (Err e) = c
 
 -- the bytes that stand at the buffer's start then, exactly as many as were answered
-abbrev pub answer_of_text : Wrote → List ℕ → H.Answer
-answer_of_text (Wrote-as-Bytes n) b = H.wrote (bytes_of b n)
-answer_of_text (Wrote-as-Refused n) b = H.refusal n
+abbrev pub answer_of_text : Result ℕ Refusal → List ℕ → H.Answer
+answer_of_text (Ok n) b = H.wrote (bytes_of b n)
+answer_of_text (Err e) b = H.refusal (number_of e)
 
-abbrev pub answer_of_drain : Drained → List ℕ → H.Answer
-answer_of_drain (Drained-as-Bytes n c) b = H.wrote (bytes_of b n)
-answer_of_drain (Drained-as-Refused n) b = H.refusal n
+abbrev pub answer_of_drain : Result (ℕ × Counts) Refusal → List ℕ → H.Answer
+answer_of_drain (Ok (n, c)) b = H.wrote (bytes_of b n)
+answer_of_drain (Err e) b = H.refusal (number_of e)
 
-abbrev pub counts_of_drain : Counts → Drained → Counts
-counts_of_drain c (Drained-as-Bytes n e) = e
-counts_of_drain c (Drained-as-Refused n) = c
+abbrev pub counts_of_drain : Counts → Result (ℕ × Counts) Refusal → Counts
+counts_of_drain c (Ok (n, d)) = d
+counts_of_drain c (Err e) = c
 
 -- Clear gives the fresh engine over any stores of listed size.
-abbrev pub ClearsTo : Tables → Mem → Changed → Tables → Mem → Type 0
-ClearsTo g m (Changed-as-Done c) g' m' = (state_in c g' m' ≡ St.fresh) × (lent c g' m' ≡ true) × Stands c g' × Placed c.depths
-ClearsTo g m (Changed-as-Refused n) g' m' = (n ≡ 33) × (g' ≡ g) × (m' ≡ m)
+abbrev pub ClearsTo : Tables → Mem → Result Counts Refusal → Tables → Mem → Type 0
+ClearsTo g m (Ok c) g' m' = (state_in c g' m' ≡ St.fresh) × (lent c g' m' ≡ true) × Stands c g' × Placed c.depths
+ClearsTo g m (Err e) g' m' = (e ≡ StoreSizes) × (g' ≡ g) × (m' ≡ m)
 
-pub record Clears (g : Tables) (m : Mem) (r : Changed) (g' : Tables) (m' : Mem) : Type 0 where
+pub record Clears (g : Tables) (m : Mem) (r : Result Counts Refusal) (g' : Tables) (m' : Mem) : Type 0 where
   pub told : ClearsTo g m r g' m'
-  pub asked : sizes_right g m ≡ false → r ≡ Changed-as-Refused 33
-  pub granted : sizes_right g m ≡ true → (n : ℕ) → r ≡ Changed-as-Refused n → ⊥
+  pub asked : sizes_right g m ≡ false → r ≡ Err StoreSizes
+  pub granted : sizes_right g m ≡ true → (e : Refusal) → r ≡ Err e → ⊥

@@ -1,24 +1,27 @@
--- Question 30 of one store. Assumes nothing.
-use Rattle.std.specs.Prelude.{ℕ, ◌+◌, ◌≤◌, ◌<◌, Bool, true, false, ◌&&◌, List, ◌≡◌, leb, length, get_or}
-use Rattle.std.proofs.Common.{sym, ap, ◌∙◌, le-leb}
+-- Questions 29 and 30, as the library answers them. Assumes nothing.
+use Rattle.std.specs.Prelude.{◌≡◌, refl, Bool, true, false, ◌&&◌, List, ℕ, ◌+◌, ◌≤◌, ◌<◌, leb, ltb, length, get_or, take, drop, MatchBool}
+use Rattle.std.specs.Str.{IsAscii, IsNotAscii}
+use Rattle.std.proofs.Common.{arith, sym, ap, ◌∙◌, lt-ltb, le-ltb, le-leb}
 use Rattle.std.proofs.lemmas.Bool.{lt-leb}
+use Rattle.std.proofs.lemmas.List.{get_or_past}
+use Rattle.std.proofs.lemmas.List.Recursion.{and_from_places, and_fails_at}
 use Rattle.machine.specs.Basic.{is_ascii}
-use Rattle.value.specs.Lists.{bytes_of, row_length}
-use Rattle.texts.specs.Spans.{Places, named, part_of}
-use Rattle.texts.specs.declared.Part.{Part}
 
--- of which n bytes are in use
-abbrev pub inside_of : List ℕ → ℕ → ℕ → ℕ → Bool
-inside_of s n at size = leb (at + size) (length (bytes_of s n)) && is_ascii (named s n at size)
+pub ascii_is : (bs : List ℕ) (x : Bool) → MatchBool x (IsAscii bs) (IsNotAscii bs) → is_ascii bs ≡ x
+ascii_is bs true h = and_from_places is_ascii (λ b. ltb b 128) refl (λ _ _. refl) bs 0 (λ i l. lt-ltb (get_or bs i 0) 128 (h i))
+ascii_is bs false h =
+    let past = get_or_past bs h.0 0 in
+    let high : 128 ≤ get_or bs h.0 0 = h.1 in
+    and_fails_at is_ascii (λ b. ltb b 128) refl (λ _ _. refl) bs h.0 0 (grind (arith, past, high)) (le-ltb (get_or bs h.0 0) 128 h.1)
 
-module _ (s : List ℕ) (n at size : ℕ) where
-  -- a place and a size that pass the bytes in use
-  pub inside_not : n < at + size → false ≡ inside_of s n at size
-  inside_not h =
-      let e : leb (at + size) (length (bytes_of s n)) ≡ false = rw (row_length n (λ i. get_or s i 0)) (lt-leb (at + size) n h) in
-      sym (ap (λ (x : Bool). x && is_ascii (named s n at size)) e)
+-- a handle among the bytes in use
+abbrev pub inside_of : List ℕ → ℕ → ℕ → Bool
+inside_of bs at size = leb (at + size) (length bs) && is_ascii (take size (drop at bs))
 
-  pub inside_by : {p : Part} (x : Bool) → n ≤ length s → at + size ≤ n → Places at size n p → x ≡ is_ascii (part_of s p.from p.to) → x ≡ inside_of s n at size
-  inside_by x l h p e =
-      let q : leb (at + size) (length (bytes_of s n)) ≡ true = rw (row_length n (λ i. get_or s i 0)) (le-leb (at + size) n h) in
-      e ∙ ap is_ascii (p.bytes s l) ∙ sym (ap (λ (y : Bool). y && is_ascii (named s n at size)) q)
+module _ (bs : List ℕ) (at size : ℕ) where
+  pub inside_not : length bs < at + size → inside_of bs at size ≡ false
+  inside_not h = ap (λ (x : Bool). x && is_ascii (take size (drop at bs))) (lt-leb (at + size) (length bs) h)
+
+  pub inside_is : {t : List ℕ} {x : Bool} → at + size ≤ length bs → t ≡ take size (drop at bs) → MatchBool x (IsAscii t) (IsNotAscii t) → inside_of bs at size ≡ x
+  inside_is {t} {x} h e k =
+      ap (λ (y : Bool). y && is_ascii (take size (drop at bs))) (le-leb (at + size) (length bs) h) ∙ ap is_ascii (sym e) ∙ ascii_is t x k

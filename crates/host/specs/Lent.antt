@@ -17,19 +17,12 @@ use Rattle.heapops.specs.declared.Counts.{Counts}
 use Rattle.heapops.specs.Turns.{Mem, mem}
 use Rattle.finish.specs.Parts.{Tables}
 use Rattle.run.specs.Runs.{Whole, ground_of, state_in, whole_sized, whole_use}
-use Rattle.host.specs.Calls.{sizes_right, counts_right, lent, Called, Buffered}
+use Rattle.host.specs.Calls.{sizes_right, counts_right, lent, Called}
 
 -- tests that hold together
 both : (x y : Bool) → (x && y) ≡ true → (x ≡ true) × (y ≡ true)
 both true y e = (refl, e)
 both false y e = absurd (false≢true e)
-
--- of two tests, the second is asked where the first holds
-pub second_told : {x y a b : Bool} → x ≡ a → x ≡ true → y ≡ b → y ≡ (a && b)
-second_told {b = b} p q r = r ∙ sym (ap (λ (z : Bool). z && b) (sym p ∙ q))
-
-pub first_not : {x a : Bool} (b : Bool) → x ≡ a → x ≡ false → false ≡ (a && b)
-first_not b p q = sym (ap (λ (z : Bool). z && b) (sym p ∙ q))
 
 module _ (a b c d e f g h : Bool) where
   eight : (a && b && c && d && e && f && g && h) ≡ true → (a ≡ true) × (b ≡ true) × (c ≡ true) × (d ≡ true) × (e ≡ true) × (f ≡ true) × (g ≡ true) × (h ≡ true)
@@ -219,22 +212,15 @@ lent_stored {c} {g} {m} {z} {k} {h} t e s n l =
       output = y.output;
     })
 
--- the test of it
+-- A call that is refused with 33
 module _ {c : Counts} {g : Tables} {m : Mem} where
-  pub lent_if : {x : Bool} → x ≡ lent c g m → x ≡ true → Lent c g m
-  lent_if p q = record { right = sym p ∙ q }
-
-  pub not_lent : {call : H.Call} {x : Bool} → x ≡ lent c g m → x ≡ false → Called call c g m (H.refusal 33) c g m
-  not_lent {call} p q = record {
+  pub not_lent : {call : H.Call} → lent c g m ≡ false → Called call c g m (H.refusal 33) c g m
+  not_lent {call} p = record {
     machine = λ r. (
-      ap (λ (b : Bool). (H.perform_on b call (state_in c g m)).answer) (sym p ∙ q),
-      ap (λ (b : Bool). (H.perform_on b call (state_in c g m)).after) (sym p ∙ q),
+      ap (λ (b : Bool). (H.perform_on b call (state_in c g m)).answer) p,
+      ap (λ (b : Bool). (H.perform_on b call (state_in c g m)).after) p,
     );
     refused = λ n f. (refl, refl, refl);
-    stands = λ f s. absurd (false≢true (sym q ∙ p ∙ f));
+    stands = λ f s. absurd (false≢true (sym p ∙ f));
     placed = λ z. z;
   }
-
-  -- of a call that has a buffer
-  pub not_lent_buffer : {call : H.Call} {x : Bool} {b : List ℕ} → x ≡ lent c g m → x ≡ false → Called call c g m (H.refusal 33) c g m × Buffered (H.refusal 33) b b
-  not_lent_buffer {call = call} p q = (not_lent {call = call} p q, record { bytes = refl })

@@ -1,4 +1,6 @@
 pub mod Calls
+pub mod Givens
+pub mod Inside
 pub mod Lent
 pub mod Performs
-pub mod Inside
+pub mod Refusals

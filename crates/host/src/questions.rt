@@ -1,97 +1,83 @@
-//! The questions on the way in that are asked of the stores and of what the host gives: 33, 29 and 30.
-ghost use Rattle.std.specs.Prelude.{◌≡◌, ◌≤◌, length};
+//! The questions that are asked before a call acts: 33, then 10 and 32, or 29 and 30.
+ghost use Rattle.std.specs.Prelude.{◌≡◌, false, ◌&&◌, List, [], ℕ, ◌+◌, ◌≤◌, ◌<◌, leb, ltb, length, take, drop, get_or, MatchOption, MatchResult};
 ghost use Rattle.machine.specs.Basic.{is_ascii};
 ghost use Rattle.machine.specs.Host as Host;
 ghost use Rattle.value.specs.Words.{value_of};
 ghost use Rattle.texts.specs.Sources.{InUse, stores_of};
+ghost use Rattle.image.specs.View.{images_of};
 ghost use Rattle.heapops.specs.Turns.{mem};
-ghost use Rattle.finish.specs.Parts.{tables};
-ghost use Rattle.host.specs.Calls.{sizes_are, counts_right, lent as are_lent};
+ghost use Rattle.finish.specs.Parts.{Tables, tables};
+ghost use Rattle.host.specs.declared.refusal.Refusal.TheVariants.{StoreSizes, NotAscii, Handle, NoImage, NoTemplate};
+ghost use Rattle.host.specs.Calls.{sizes_right, counts_right, lent as are_lent};
+ghost use Rattle.host.specs.Lent.{Lent};
 ghost use Rattle.host.specs.Inside.{inside_of};
+ghost use Rattle.host.specs.Refusals.{Asks};
 
+use crate::Refusal;
 use heapops::Counts;
 use value::Value;
 
-// Question 33, of the eight lengths.
-pub fn listed(
-    code: usize,
-    places: usize,
-    rows: usize,
-    starts: usize,
-    stacks: usize,
-    heap: usize,
-    text: usize,
-    output: usize,
+fn listed(
+    code: &[u8],
+    places: &[u16],
+    rows: &[u16],
+    starts: &[u16],
+    stacks: &[u64],
+    heap: &[u64],
+    text: &[u8],
+    output: &[u8],
 ) -> bool
-    ensures { result ≡ sizes_are code places rows starts stacks heap text output }
+    ensures { result ≡ sizes_right (tables code.now places.now rows.now starts.now) (mem stacks.now heap.now text.now output.now) }
 {
-    if code != image::CODE_BYTES {
-        return false;
-    }
-    if places != image::CODE_BYTES {
-        return false;
-    }
-    if rows != image::CODE_BYTES {
-        return false;
-    }
-    if starts != image::IMAGES {
-        return false;
-    }
-    if stacks != stacks::STACK_WORDS {
-        return false;
-    }
-    if heap != heap::HEAP_WORDS {
-        return false;
-    }
-    if text != texts::TEXT_LIMIT {
-        return false;
-    }
-    output == texts::OUTPUT_LIMIT
+    code.len() == image::CODE_BYTES
+        && places.len() == image::CODE_BYTES
+        && rows.len() == image::CODE_BYTES
+        && starts.len() == image::IMAGES
+        && stacks.len() == stacks::STACK_WORDS
+        && heap.len() == heap::HEAP_WORDS
+        && text.len() == texts::TEXT_LIMIT
+        && output.len() == texts::OUTPUT_LIMIT
 }
 
 // Are the counts within the stores? No call leaves others.
 fn within(c: Counts) -> bool
     ensures { result ≡ counts_right c }
 {
-    let d = c.depths;
-    let z = c.sizes;
-    if stacks::OPERAND_LIMIT < d.operands {
-        return false;
-    }
-    if stacks::SLOT_LIMIT < d.slots {
-        return false;
-    }
-    if stacks::FRAME_LIMIT < d.frames {
-        return false;
-    }
-    if stacks::HANDLER_LIMIT < d.handlers {
-        return false;
-    }
-    if heap::FUNCTION_LIMIT < z.functions {
-        return false;
-    }
-    if heap::OBJECT_LIMIT < z.objects {
-        return false;
-    }
-    if heap::PROPERTY_LIMIT < z.properties {
-        return false;
-    }
-    if heap::GLOBAL_LIMIT < z.globals {
-        return false;
-    }
-    if image::CODE_BYTES < c.code {
-        return false;
-    }
-    if image::IMAGES < c.images {
-        return false;
-    }
-    if texts::TEXT_LIMIT < c.text {
-        return false;
-    }
-    c.output <= texts::OUTPUT_LIMIT
+    c.depths.operands <= stacks::OPERAND_LIMIT
+        && c.depths.slots <= stacks::SLOT_LIMIT
+        && c.depths.frames <= stacks::FRAME_LIMIT
+        && c.depths.handlers <= stacks::HANDLER_LIMIT
+        && c.sizes.functions <= heap::FUNCTION_LIMIT
+        && c.sizes.objects <= heap::OBJECT_LIMIT
+        && c.sizes.properties <= heap::PROPERTY_LIMIT
+        && c.sizes.globals <= heap::GLOBAL_LIMIT
+        && c.code <= image::CODE_BYTES
+        && c.images <= image::IMAGES
+        && c.text <= texts::TEXT_LIMIT
+        && c.output <= texts::OUTPUT_LIMIT
 }
 
-// Question 33 of a call that has counts.
+/// Question 33 of the call that has no counts.
+pub fn sizes(
+    code: &[u8],
+    places: &[u16],
+    rows: &[u16],
+    starts: &[u16],
+    stacks: &[u64],
+    heap: &[u64],
+    text: &[u8],
+    output: &[u8],
+) -> Result<(), Refusal>
+    ensures { Asks result (sizes_right (tables code.now places.now rows.now starts.now) (mem stacks.now heap.now text.now output.now)) StoreSizes }
+{
+    if listed(code, places, rows, starts, stacks, heap, text, output) {
+        Ok(())
+    } else {
+        Err(Refusal::StoreSizes)
+    }
+}
+
+/// Question 33.
 pub fn lent(
     code: &[u8],
     places: &[u16],
@@ -102,68 +88,88 @@ pub fn lent(
     text: &[u8],
     output: &[u8],
     c: Counts,
-) -> bool
-    ensures { result ≡ are_lent c (tables code.now places.now rows.now starts.now) (mem stacks.now heap.now text.now output.now) }
+) -> Result<(), Refusal>
+    ensures { MatchResult result
+        (λ _. Lent c (tables code.now places.now rows.now starts.now) (mem stacks.now heap.now text.now output.now))
+        (λ e. (are_lent c (tables code.now places.now rows.now starts.now) (mem stacks.now heap.now text.now output.now) ≡ false) × (e ≡ StoreSizes)) }
 {
-    if listed(
-        code.len(),
-        places.len(),
-        rows.len(),
-        starts.len(),
-        stacks.len(),
-        heap.len(),
-        text.len(),
-        output.len(),
-    ) {
-        return within(c);
+    if listed(code, places, rows, starts, stacks, heap, text, output) && within(c) {
+        Ok(())
+    } else {
+        Err(Refusal::StoreSizes)
     }
-    false
 }
 
-// Question 30: a text handle is inside the bytes in use, and these are below 128.
-pub fn handle_fine<'a>(code: &'a [u8], n: usize, text: &'a [u8], m: usize, v: Value) -> bool
+/// Question 10.
+pub fn loaded(c: Counts, image: usize) -> Result<(), Refusal>
+    ensures { (g : Tables) → Asks result (ltb image (length (images_of g.code g.places g.rows g.starts c.images))) NoImage }
+{
+    if image < c.images {
+        Ok(())
+    } else {
+        Err(Refusal::NoImage)
+    }
+}
+
+/// Question 32. An image's chunk, its template 0, is no function.
+pub fn template(
+    rows: &[u16],
+    starts: &[u16],
+    c: Counts,
+    image: usize,
+    template: usize,
+) -> Result<(), Refusal>
+    ensures { (code places : List ℕ) → Asks result (leb 1 template && ltb template (length (get_or (images_of code places rows.now starts.now c.images) image []))) NoTemplate }
+{
+    if 0 < template && template < image::template_count(rows, starts, c.images, image) {
+        Ok(())
+    } else {
+        Err(Refusal::NoTemplate)
+    }
+}
+
+/// Question 29.
+pub fn ascii(s: &[u8]) -> Result<(), Refusal>
+    ensures { Asks result (is_ascii s.now) NotAscii }
+{
+    if s.is_ascii() {
+        Ok(())
+    } else {
+        Err(Refusal::NotAscii)
+    }
+}
+
+/// Question 30: a text handle is inside the bytes in use, and these are below 128.
+pub fn handle(code: &[u8], n: usize, text: &[u8], m: usize, v: Value) -> Result<(), Refusal>
     requires { InUse code.now n text.now m }
-    ensures { result ≡ Host.handle_fine (stores_of code.now n text.now m) (value_of v) }
+    ensures { Asks result (Host.handle_fine (stores_of code.now n text.now m) (value_of v)) Handle }
 {
     match v {
-        Value::Undefined => true,
-        Value::Null => true,
-        Value::Boolean(_) => true,
-        Value::Number(_) => true,
-        Value::CodeText(at, size) => inside(code, n, at, size),
-        Value::MadeText(at, size) => inside(text, m, at, size),
-        Value::Object(_) => true,
-        Value::Function(_) => true,
+        Value::CodeText(at, size) => inside(&code[..n], at, size),
+        Value::MadeText(at, size) => inside(&text[..m], at, size),
+        Value::Undefined
+        | Value::Null
+        | Value::Boolean(_)
+        | Value::Number(_)
+        | Value::Object(_)
+        | Value::Function(_) => Ok(()),
     }
 }
 
-fn inside(store: &[u8], n: usize, at: u64, size: u64) -> bool
-    requires { n ≤ length store.now }
-    ensures { result ≡ inside_of store.now n at size }
+fn inside(bytes: &[u8], at: u64, size: u64) -> Result<(), Refusal>
+    ensures { Asks result (inside_of bytes.now at size) Handle }
 {
-    if (n as u64) < at {
-        return false;
+    let text = named(bytes, at, size).ok_or(Refusal::Handle)?;
+    if text.is_ascii() {
+        Ok(())
+    } else {
+        Err(Refusal::Handle)
     }
-    if n as u64 - at < size {
-        return false;
-    }
-    let p = texts::locate(at, size, n);
-    let from = p.from;
-    let to = p.to;
-    is_ascii(&store[from..to])
 }
 
-// Question 29.
-pub fn is_ascii(s: &[u8]) -> bool
-    ensures { result ≡ is_ascii s.now }
+// The bytes that a handle names, where all of them are there.
+fn named(bytes: &[u8], at: u64, size: u64) -> Option<&[u8]>
+    ensures { MatchOption result (length bytes.now < at + size) (λ text. (at + size ≤ length bytes.now) × (text.now ≡ take size (drop at bytes.now))) }
 {
-    let mut i: usize = 0;
-    while i < s.len() {
-        if s[i] < 128 {
-            i += 1;
-        } else {
-            return false;
-        }
-    }
-    true
+    bytes.get(at as usize..)?.get(..size as usize)
 }

@@ -71,9 +71,6 @@ same_set m xs i v h = record { same = λ j l. get_or-set_other xs i j v 0 (λ e.
 pub same_less : {m k : ℕ} {xs ys : List ℕ} → k ≤ m → Same m xs ys → Same k xs ys
 same_less l f = record { same = λ j h. f.same j (omega arith) }
 
-pub same_sym : {m : ℕ} {xs ys : List ℕ} → Same m xs ys → Same m ys xs
-same_sym f = record { same = λ j h. sym (f.same j h) }
-
 pub same_take : (m : ℕ) (xs : List ℕ) → Same m (take m xs) xs
 same_take m xs = record { same = λ j h. sym (get_or-take m xs j 0 h) }
 

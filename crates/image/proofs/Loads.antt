@@ -8,17 +8,14 @@ use native.Mathlib.Omega.{arith}
 use native.Mathlib.Nat.{add-zero}
 use lib.Dec.{leb, eqb}
 use lib.ListN.{length, take, drop, get_or, set, get_or-append}
-use lib.Seq.{paste, take-paste, take-length, drop_at, length-take-le, get_or-set_same, get_or-take}
+use lib.Seq.{paste, length-paste, take-paste, take-length, drop_at, length-take-le, get_or-set_same, get_or-take}
 use borrow.Author.Tests.{leb-true, eqb-true}
 use Rattle.machine.specs.Image as I
 use Rattle.machine.specs.Image.{Template, Read, Reader, refused, got, ◌>>=◌, after}
 use Rattle.machine.specs.State.{limit, code_store, image_store}
 use Rattle.machine.specs.Act.{templates_read}
 use Rattle.machine.specs.Host.{refusal_read}
-use Rattle.reader.specs.Says.{Refuses}
-use Rattle.reader.specs.Answers.{step_of, image_from}
-use Rattle.reader.specs.declared.Cursor.{Cursor}
-use Rattle.reader.specs.declared.Step.TheVariants.{Next, Stop}
+use Rattle.reader.specs.Says.{Refuses, Passed}
 use Rattle.image.specs.View.{image_at, images_of, Same}
 use Rattle.image.specs.Fills.{FilledImage, unasked}
 use Rattle.image.specs.Load.{Stores, listed, unless, or_else, space_refusal, images, Agree, Sound, Appends, Fitting}
@@ -42,22 +39,22 @@ alike_refused : {A : Type 0} (R : A → List Template → Type 0) (k q : ℕ) (y
 alike_refused R k q (refused p) h = ap refused (sym h)
 alike_refused R k q (got ts p s) h = absurd h
 
-taken_by : {A : Type 0} (R : A → List Template → Type 0) (k : ℕ) (c : Cursor) (x : Read A) (y : Read (List Template)) → Shift.Alike k R x y → step_of x ≡ Next c → Taken y
-taken_by R k c (refused q) y h e = let z : ◌≡◌ {A = ℕ} 0 1 = cc in absurd (omega arith)
-taken_by R k c (got a p r) y h e = alike_got R k p a r y h
+taken_by : {A : Type 0} (R : A → List Template → Type 0) (k p : ℕ) (a : A) (r : List ℕ) (x : Read A) (y : Read (List Template)) → Shift.Alike k R x y → x ≡ got a p r → Taken y
+taken_by R k p a r (refused q) y h e = let z : ◌≡◌ {A = ℕ} 0 1 = cc in absurd (omega arith)
+taken_by R k p a r (got b q s) y h e = alike_got R k q b s y h
 
-refused_by : {A : Type 0} (R : A → List Template → Type 0) (k q : ℕ) (x : Read A) (y : Read (List Template)) → Shift.Alike k R x y → step_of x ≡ Stop q → y ≡ refused q
+refused_by : {A : Type 0} (R : A → List Template → Type 0) (k q : ℕ) (x : Read A) (y : Read (List Template)) → Shift.Alike k R x y → x ≡ refused q → y ≡ refused q
 refused_by R k q (refused p) y h e = let z : p ≡ q = cc in rw z at (alike_refused R k p y h)
 refused_by R k q (got a p r) y h e = let z : ◌≡◌ {A = ℕ} 0 1 = cc in absurd (omega arith)
 
-taken : (k : ℕ) (bs : List ℕ) (c : Cursor) → image_from bs 0 ≡ Next c → Taken (I.image k bs)
-taken k bs c e = rw add-zero at (taken_by _ k c (I.image 0 bs) (I.image (k + 0) bs) (Shift.image k 0 bs) e)
+taken : (k : ℕ) (bs : List ℕ) (next : ℕ) → Passed bs 0 I.image next → Taken (I.image k bs)
+taken k bs next p = rw add-zero at (taken_by _ k next p.value (drop next bs) (I.image 0 bs) (I.image (k + 0) bs) (Shift.image k 0 bs) p.reads.read)
 
-pub refused_there : (k : ℕ) (bs : List ℕ) (q : ℕ) → image_from bs 0 ≡ Stop q → I.image k bs ≡ refused q
+pub refused_there : (k : ℕ) (bs : List ℕ) (q : ℕ) → Refuses bs 0 I.image q → I.image k bs ≡ refused q
 refused_there k bs q e = rw add-zero at (refused_by _ k q (I.image 0 bs) (I.image (k + 0) bs) (Shift.image k 0 bs) e)
 
-pub good : (k : ℕ) (bs : List ℕ) (c : Cursor) → image_from bs 0 ≡ Next c → refusal_read (I.image k bs) ≡ none
-good k bs c e = rw (taken k bs c e).is
+pub good : (k : ℕ) (bs : List ℕ) (next : ℕ) → Passed bs 0 I.image next → refusal_read (I.image k bs) ≡ none
+good k bs next p = rw (taken k bs next p).is
 
 -- What is taken with questions 2 and 7 is read without them.
 module _ (ts : List Template) (e : ℕ) (end : List ℕ) where
@@ -169,8 +166,10 @@ module _ (x : Stores) (c : ImageCounts) (bs code' : List ℕ) (fitting : Fitting
       let u = unasked_there in
       let z : ◌≡◌ {A = ℕ} 0 1 = cc in omega arith
 
-  module _ (places' rows' : List ℕ) (next : ℕ) (kept : length code' ≡ length x.code)
-      (g : FilledImage (take end code') x.places x.rows places' rows' c.code next) where
+  kept : length code' ≡ length x.code
+  kept = rw pasted (length-paste x.code c.code bs (length bs) (omega (arith, room, sized.code)) (omega arith))
+
+  module _ (places' rows' : List ℕ) (g : FilledImage (take end code') x.places x.rows places' rows' c.code) where
     abbrev y : Stores
     y = after_load x c code' places' rows'
 
@@ -180,7 +179,7 @@ module _ (x : Stores) (c : ImageCounts) (bs code' : List ℕ) (fitting : Fitting
     in_store : end ≤ length code'
     in_store = omega (arith, room, sized.code, kept)
 
-    short : next ≤ end
+    short : g.next ≤ end
     short = let e : length (take end code') ≡ end = length-take-le end code' in_store in omega (arith, g.inside, e)
 
     -- Whatever agrees with these stores shows the new image.

@@ -1,13 +1,17 @@
 -- Looking up in the view: what stands in the tables, whatever they hold. Assumes nothing.
-use mathlib.Core.Path.{◌≡◌, refl, ◌∙◌}
+use mathlib.Core.Path.{◌≡◌, refl, sym, ◌∙◌}
 use mathlib.Core.Option.{none, some}
-use mathlib.Core.List.{List, []}
+use mathlib.Core.List.{List, [], ◌∷◌}
 use Prim.Native.Nat.{ℕ, zero, suc, ◌+◌, ◌*◌, ◌≤◌, ◌<◌}
 use native.Mathlib.Omega.{arith}
-use lib.ListN.{length, get_or, get_elem?}
+use lib.ListN.{length, take, get_or, get_elem?}
+use lib.Seq.{get_or-take}
+use Rattle.std.specs.Int.{w16, w64, from_be_bytes}
+use Rattle.std.specs.List.{slice_range}
+use Rattle.std.proofs.lemmas.List.Edits.{get_or-between}
 use Rattle.machine.specs.Image.{Constant}
 use Rattle.machine.specs.State.{no_template}
-use Rattle.image.specs.View.{wide_at, constant_by, constant_at, constants_of, template_at, templates_at, image_at, images_of}
+use Rattle.image.specs.View.{Window, word_at, wide_at, constant_by, constant_at, constants_of, template_at, templates_at, image_at, images_of}
 use Rattle.image.proofs.Lists.{list_length, list_get, list_past, list_elem, list_none}
 
 module _ (code places rows starts : List ℕ) (n i t : ℕ) where
@@ -74,14 +78,29 @@ unknown s p (suc (suc (suc (suc zero)))) h = absurd (omega arith)
 unknown s p (suc (suc (suc (suc (suc zero))))) h = absurd (omega arith)
 unknown s p (suc (suc (suc (suc (suc (suc k)))))) h = refl
 
-module _ (s : List ℕ) (p k : ℕ) (e : k ≡ get_or s p 0) where
-  pub constant_by_lem : constant_at s p ≡ constant_by s p k
+big_endian : (a b c d e f g h : ℕ) → from_be_bytes w64 (a ∷ b ∷ c ∷ d ∷ e ∷ f ∷ g ∷ h ∷ [])
+    ≡ (((((((0 * 256 + a) * 256 + b) * 256 + c) * 256 + d) * 256 + e) * 256 + f) * 256 + g) * 256 + h
+big_endian a b c d e f g h = omega arith
+
+pub window_first : (code xs bs : List ℕ) (p : ℕ) → xs ≡ slice_range code p (p + 9) → bs ≡ take 9 xs → Window code p bs
+window_first code xs bs p e f = record { same = λ j l. rw f (get_or-take 9 xs j 0 l ∙ rw e (get_or-between code p (p + 9) j 0 (omega arith))) }
+
+-- Nine bytes show a constant.
+module _ (code bs : List ℕ) (p : ℕ) (w : Window code p bs) where
+  byte_in : (j q : ℕ) → j < 9 → q ≡ p + j → get_or bs j 0 ≡ get_or code q 0
+  byte_in j q l e = rw e (w.same j l)
+
+  pub kind_in : (k : ℕ) → get_or bs 0 0 ≡ k → constant_at code p ≡ constant_by code p k
   unfolding constant_at
-  constant_by_lem = rw e
+  kind_in k e = rw (sym (byte_in 0 p (omega arith) (omega arith)) ∙ e)
 
-  pub constant_unknown : 6 ≤ k → constant_at s p ≡ Constant.undefined
-  constant_unknown h = constant_by_lem ∙ unknown s p k h
+  pub unknown_in : (k : ℕ) → get_or bs 0 0 ≡ k → 6 ≤ k → constant_at code p ≡ Constant.undefined
+  unknown_in k e h = kind_in k e ∙ unknown code p k h
 
--- Eight bytes are four, and four more.
-pub wide_two : (s : List ℕ) (n p : ℕ) → wide_at s 4 (wide_at s 4 n p) (p + 4) ≡ wide_at s 8 n p
-wide_two s n p = let e : p + 1 + 1 + 1 + 1 ≡ p + 4 = omega arith in rw e
+  pub word_in : from_be_bytes w16 (get_or bs 1 0 ∷ get_or bs 2 0 ∷ []) ≡ word_at code (p + 1)
+  word_in = rw (byte_in 1 (p + 1) (omega arith) refl, byte_in 2 (p + 1 + 1) (omega arith) (omega arith)) refl
+
+  pub long_in : from_be_bytes w64 (get_or bs 1 0 ∷ get_or bs 2 0 ∷ get_or bs 3 0 ∷ get_or bs 4 0 ∷ get_or bs 5 0 ∷ get_or bs 6 0 ∷ get_or bs 7 0 ∷ get_or bs 8 0 ∷ []) ≡ wide_at code 8 0 (p + 1)
+  long_in =
+      big_endian (get_or bs 1 0) (get_or bs 2 0) (get_or bs 3 0) (get_or bs 4 0) (get_or bs 5 0) (get_or bs 6 0) (get_or bs 7 0) (get_or bs 8 0)
+      ∙ rw (byte_in 1 (p + 1) (omega arith) refl, byte_in 2 (p + 1 + 1) (omega arith) (omega arith), byte_in 3 (p + 1 + 1 + 1) (omega arith) (omega arith), byte_in 4 (p + 1 + 1 + 1 + 1) (omega arith) (omega arith), byte_in 5 (p + 1 + 1 + 1 + 1 + 1) (omega arith) (omega arith), byte_in 6 (p + 1 + 1 + 1 + 1 + 1 + 1) (omega arith) (omega arith), byte_in 7 (p + 1 + 1 + 1 + 1 + 1 + 1 + 1) (omega arith) (omega arith), byte_in 8 (p + 1 + 1 + 1 + 1 + 1 + 1 + 1 + 1) (omega arith) (omega arith)) refl

@@ -3,6 +3,7 @@ use mathlib.Core.Path.{◌≡◌, refl, sym, ap, ◌∙◌}
 use mathlib.Core.Bool.{Bool, true, false}
 use mathlib.Core.Option.{none, some}
 use mathlib.Core.List.{List, [], ◌∷◌, ◌++◌}
+use Rattle.std.specs.Prelude.{Ok, Err}
 use Prim.Native.Nat.{ℕ, ◌+◌}
 use native.Mathlib.Omega.{arith}
 use lib.Dec.{leb}
@@ -17,10 +18,10 @@ use Rattle.machine.specs.Host.{refusal_read}
 use Rattle.machine.specs.Host as H
 use Rattle.machine.specs.Host.{perform, refusal, numbered}
 use Rattle.image.specs.View.{images_of, image_at}
-use Rattle.image.specs.Load.{Stores, listed, unless, or_else, space_refusal, load_refusal, images, shown, Sound, Loads, Appends, AppendSays, Fitting}
+use Rattle.image.specs.Errors.{asked}
+use Rattle.image.specs.Load.{Stores, listed, unless, or_else, space_refusal, load_refusal, images, shown, Sound, Loaded, Loads, Appends, AppendSays, Fitting}
 use Rattle.image.specs.declared.ImageCounts.{ImageCounts}
-use Rattle.image.specs.declared.Loaded.{Loaded}
-use Rattle.image.specs.declared.Loaded.TheVariants.{Done, Refused}
+use Rattle.image.specs.declared.error.LoadError.{LoadError}
 use Rattle.image.proofs.Lists.{list_length}
 
 -- What the machine's load does, by its answers.
@@ -69,21 +70,12 @@ module _ (x : Stores) (c : ImageCounts) (bs : List ℕ) (sound : Sound x c) (s :
 
 -- The contract, for each way that load ends.
 module _ (x : Stores) (c : ImageCounts) (bs : List ℕ) where
-  pub loads_unlisted : listed x ≡ false → Loads x x c bs (Refused 33)
-  loads_unlisted h = record {
-    asked = rw h;
-    leaves = refl;
-    sound = λ w. w;
-    machine = λ e. let z : ◌≡◌ {A = ℕ} 0 1 = cc in absurd (omega arith);
-    older = λ w i l. refl;
-  }
-
-  pub loads_refused : (q : ℕ) → listed x ≡ true → load_refusal true c bs ≡ some q → Loads x x c bs (Refused q)
-  loads_refused q e h = record {
+  pub loads_refused : (r : LoadError) → listed x ≡ true → load_refusal true c bs ≡ some (asked r) → Loads x x c bs (Err r)
+  loads_refused r e h = record {
     asked = rw e (sym h);
     leaves = refl;
     sound = λ w. w;
-    machine = λ _ w s. machine_refused x c bs w s q h;
+    machine = λ _ w s. machine_refused x c bs w s (asked r) h;
     older = λ w i l. refl;
   }
 
@@ -94,13 +86,13 @@ module _ (x : Stores) (c : ImageCounts) (bs : List ℕ) where
   space_refused q e f = rw (e, f)
 
   pub loads_done : (y : Stores) (r : Loaded) → Fitting x c bs → AppendSays x y c bs r → Loads x y c bs r
-  loads_done y (Refused q) f a = absurd a
-  loads_done y (Done i d) f a =
+  loads_done y (Err e) f a = absurd a
+  loads_done y (Ok p) f a =
       let n : load_refusal true c bs ≡ none = rw (f.good, f.room) in
       record {
         asked = rw f.sized (sym n);
         leaves = a;
         sound = λ w. a.1.sound w;
-        machine = λ _ w s. rw a.0 (machine_done x c bs w s y d n a.1);
+        machine = λ _ w s. rw a.0 (machine_done x c bs w s y p.1 n a.1);
         older = λ w i l. rw (a.1.view w) (get_or-append (images x c.images) _ [] i (rw (images_length x c.images) l));
       }

@@ -1,16 +1,17 @@
 -- Pass 2: what the tables show grows with what is read. Assumes nothing.
 use mathlib.Core.Path.{◌≡◌, refl, ◌∙◌}
 use mathlib.Core.List.{List, [], ◌∷◌, ◌++◌}
+use Rattle.std.specs.Prelude.{Result, Ok, Err}
 use Prim.Native.Nat.{ℕ, ◌+◌, ◌-◌, ◌*◌, ◌≤◌, ◌<◌}
 use native.Mathlib.Omega.{arith}
-use lib.ListN.{length, drop, get_or, set, length-set}
-use lib.Seq.{get_or-set_same, get_or-set_other}
+use native.Mathlib.Nat.{add-zero}
+use lib.ListN.{length, take, drop, get_or, set, length-set, get_or-append}
+use lib.Seq.{get_or-set_same, get_or-append-add, get_or-take, length-take-le}
 use Rattle.machine.specs.Image as I
 use Rattle.machine.specs.Image.{Constant}
 use Rattle.reader.specs.Says.{Reads, Heads, Tails}
 use Rattle.reader.specs.Laws.{prefixed, prefixed_none, times_step, times_end, templates_step, templates_end, template_got}
-use Rattle.reader.specs.declared.Step.{Step}
-use Rattle.reader.specs.declared.Step.TheVariants.{Next, Stop}
+use Rattle.reader.specs.declared.error.ImageError.{ImageError}
 use Rattle.image.specs.View.{constant_at, constants_of, template_at, templates_at, image_at, Same}
 use Rattle.image.specs.Fills.{Filled, Rowed, FilledOne, FilledAll, FillsAll, FillsImage}
 use Rattle.image.specs.declared.FunctionTemplate.{FunctionTemplate}
@@ -76,47 +77,25 @@ placing_end s ps₀ ps own count at n p i l h =
       placed = h.placed;
     }
 
--- Six stores make a row.
-module _ (xs : List ℕ) (r : ℕ) (t : FunctionTemplate) where
-  abbrev pub sixed : List ℕ
-  sixed = set (set (set (set (set (set xs r t.param_count) (r + 1) t.local_count) (r + 2) t.constants) (r + 3) t.constant_count) (r + 4) t.at) (r + 5) t.size
+-- Six entries from r on make a row.
+abbrev pub row_of : FunctionTemplate → List ℕ
+row_of t = t.param_count ∷ t.local_count ∷ t.constants ∷ t.constant_count ∷ t.at ∷ t.size ∷ []
 
-past : (xs : List ℕ) (i j v x : ℕ) → (j ≡ i → ⊥) → get_or xs j 0 ≡ x → get_or (set xs i v) j 0 ≡ x
-past xs i j v x h e = get_or-set_other xs i j v 0 h ∙ e
+entry_of : (xs ys : List ℕ) (r j : ℕ) → r ≤ length xs → get_or (take r xs ++ ys) (r + j) 0 ≡ get_or ys j 0
+entry_of xs ys r j h = rw (length-take-le r xs h) at (get_or-append-add (take r xs) ys j 0)
 
-pub row_put : (xs : List ℕ) (r : ℕ) (t : FunctionTemplate) → r + 6 ≤ length xs → Rowed xs (sixed xs r t) r t
-row_put xs r t h =
-    let a = t.param_count in
-    let b = t.local_count in
-    let f = t.constants in
-    let n = t.constant_count in
-    let p = t.at in
-    let z = t.size in
-    let x1 = set xs r a in
-    let x2 = set x1 (r + 1) b in
-    let x3 = set x2 (r + 2) f in
-    let x4 = set x3 (r + 3) n in
-    let x5 = set x4 (r + 4) p in
-    let l1 : length x1 ≡ length xs = length-set xs r a in
-    let l2 : length x2 ≡ length xs = length-set x1 (r + 1) b ∙ l1 in
-    let l3 : length x3 ≡ length xs = length-set x2 (r + 2) f ∙ l2 in
-    let l4 : length x4 ≡ length xs = length-set x3 (r + 3) n ∙ l3 in
-    let l5 : length x5 ≡ length xs = length-set x4 (r + 4) p ∙ l4 in
-    record {
-      at0 = past x5 (r + 5) r z a (λ e. omega arith) (past x4 (r + 4) r p a (λ e. omega arith) (past x3 (r + 3) r n a (λ e. omega arith)
-          (past x2 (r + 2) r f a (λ e. omega arith) (past x1 (r + 1) r b a (λ e. omega arith) (get_or-set_same xs r a 0 (omega arith))))));
-      at1 = past x5 (r + 5) (r + 1) z b (λ e. omega arith) (past x4 (r + 4) (r + 1) p b (λ e. omega arith) (past x3 (r + 3) (r + 1) n b (λ e. omega arith)
-          (past x2 (r + 2) (r + 1) f b (λ e. omega arith) (get_or-set_same x1 (r + 1) b 0 (omega arith)))));
-      at2 = past x5 (r + 5) (r + 2) z f (λ e. omega arith) (past x4 (r + 4) (r + 2) p f (λ e. omega arith) (past x3 (r + 3) (r + 2) n f (λ e. omega arith)
-          (get_or-set_same x2 (r + 2) f 0 (omega arith))));
-      at3 = past x5 (r + 5) (r + 3) z n (λ e. omega arith) (past x4 (r + 4) (r + 3) p n (λ e. omega arith) (get_or-set_same x3 (r + 3) n 0 (omega arith)));
-      at4 = past x5 (r + 5) (r + 4) z p (λ e. omega arith) (get_or-set_same x4 (r + 4) p 0 (omega arith));
-      at5 = get_or-set_same x5 (r + 5) z 0 (omega arith);
-      below = record {
-        same = λ j l. past x5 (r + 5) j z _ (λ e. omega arith) (past x4 (r + 4) j p _ (λ e. omega arith) (past x3 (r + 3) j n _ (λ e. omega arith)
-            (past x2 (r + 2) j f _ (λ e. omega arith) (past x1 (r + 1) j b _ (λ e. omega arith) (get_or-set_other xs r j a 0 (λ e. omega arith))))));
-      };
-    }
+pub row_put : (xs rest : List ℕ) (r : ℕ) (t : FunctionTemplate) → r ≤ length xs → Rowed xs (take r xs ++ (row_of t ++ rest)) r t
+row_put xs rest r t h = record {
+  at0 = rw add-zero at (entry_of xs (row_of t ++ rest) r 0 h);
+  at1 = entry_of xs (row_of t ++ rest) r 1 h;
+  at2 = entry_of xs (row_of t ++ rest) r 2 h;
+  at3 = entry_of xs (row_of t ++ rest) r 3 h;
+  at4 = entry_of xs (row_of t ++ rest) r 4 h;
+  at5 = entry_of xs (row_of t ++ rest) r 5 h;
+  below = record {
+    same = λ j l. get_or-append (take r xs) (row_of t ++ rest) 0 j (rw (length-take-le r xs h) l) ∙ get_or-take r xs j 0 l;
+  };
+}
 
 -- A template from its parts, in any lines that agree with its row.
 template_is : (code places rows rows' lines : List ℕ) (r : ℕ) (t : FunctionTemplate) → Rowed rows rows' r t → Same (r + 8) rows' lines
@@ -150,24 +129,22 @@ fill_one {s} {ps} {rows} {ps'} {rows'} {at} {r} {own} {count} {a} {b} {n} {p} {m
       rowed = w.below;
     }
 
--- The loop over an image's templates: own of them are in the tables.
-pub record Filling (s ps₀ rows₀ ps rows : List ℕ) (count at r p own : ℕ) : Type 0 where
+-- The loop over an image's templates: own of them are in the tables, each with a row 8 entries after the one before.
+pub record Filling (s ps₀ rows₀ ps rows : List ℕ) (count at p own : ℕ) : Type 0 where
   pub few : own ≤ count
-  pub row : r ≡ at + 8 * own
-  pub room : r ≤ p
+  pub room : at + 8 * own ≤ p
   pub inside : p ≤ length s
   pub ps_sized : length ps ≡ length ps₀
   pub rows_sized : length rows ≡ length rows₀
   pub placed : Same at ps₀ ps
   pub rowed : Same at rows₀ rows
-  pub is : (code places lines : List ℕ) → Same p s code → Same p ps places → Same r rows lines
+  pub is : (code places lines : List ℕ) → Same p s code → Same p ps places → Same (at + 8 * own) rows lines
       → I.templates count 0 count at (drop at s) ≡ prefixed (templates_at code places lines at own) (I.templates count own (count - own) p (drop p s))
 
-pub filling_start : (s ps rows : List ℕ) (count at : ℕ) → at ≤ length s → Filling s ps rows ps rows count at at at 0
+pub filling_start : (s ps rows : List ℕ) (count at : ℕ) → at ≤ length s → Filling s ps rows ps rows count at at 0
 unfolding templates_at
 filling_start s ps rows count at h = record {
   few = omega arith;
-  row = omega arith;
   room = omega arith;
   inside = h;
   ps_sized = refl;
@@ -177,60 +154,61 @@ filling_start s ps rows count at h = record {
   is = λ code places lines f g w. let e : count - 0 ≡ count = omega arith in rw e (prefixed_none _);
 }
 
-templates_more : (code places lines : List ℕ) (at own r : ℕ) → r ≡ at + 8 * own
-    → templates_at code places lines at (own + 1) ≡ templates_at code places lines at own ++ (template_at code places lines r ∷ [])
+templates_more : (code places lines : List ℕ) (at own : ℕ)
+    → templates_at code places lines at (own + 1) ≡ templates_at code places lines at own ++ (template_at code places lines (at + 8 * own) ∷ [])
 unfolding templates_at
-templates_more code places lines at own r e = rw e (list_more (λ t. template_at code places lines (at + 8 * t)) own)
+templates_more code places lines at own = list_more (λ t. template_at code places lines (at + 8 * t)) own
 
-pub filling_step : {s ps₀ rows₀ ps rows ps' rows' : List ℕ} {count at r p own q : ℕ} → own < count
-    → Filling s ps₀ rows₀ ps rows count at r p own → FilledOne s ps rows ps' rows' p r own count q
+pub filling_step : {s ps₀ rows₀ ps rows ps' rows' : List ℕ} {count at p own q : ℕ} → own < count
+    → Filling s ps₀ rows₀ ps rows count at p own → FilledOne s ps rows ps' rows' p (at + 8 * own) own count q
     → length ps' ≡ length ps → length rows' ≡ length rows
-    → Filling s ps₀ rows₀ ps' rows' count at (r + 8) q (own + 1)
-filling_step {s} {ps₀} {rows₀} {ps} {rows} {ps'} {rows'} {count} {at} {r} {p} {own} {q} l h g lp lr = record {
+    → Filling s ps₀ rows₀ ps' rows' count at q (own + 1)
+filling_step {s} {ps₀} {rows₀} {ps} {rows} {ps'} {rows'} {count} {at} {p} {own} {q} l h g lp lr = record {
   few = omega arith;
-  row = omega (arith, h.row);
   room = omega (arith, h.room, g.room);
   inside = g.inside;
   ps_sized = lp ∙ h.ps_sized;
   rows_sized = lr ∙ h.rows_sized;
-  placed = same_trans h.placed (same_less (omega (arith, h.row, h.room)) g.placed);
-  rowed = same_trans h.rowed (same_less (omega (arith, h.row)) g.rowed);
+  placed = same_trans h.placed (same_less (omega (arith, h.room)) g.placed);
+  rowed = same_trans h.rowed (same_less (omega arith) g.rowed);
   is = λ code places lines e f w.
+      let w' : Same (at + 8 * own + 8) rows' lines = same_less (omega arith) w in
       h.is code places lines (same_less (omega (arith, g.room)) e) (same_trans g.placed (same_less (omega (arith, g.room)) f))
       (same_trans g.rowed (same_less (omega arith) w))
-      ∙ templates_step s count own (templates_at code places lines at own) p (template_at code places lines r) q (count - own) (count - (own + 1)) (omega arith)
-      (g.reads code places lines e f w)
-      ∙ rw (templates_more code places lines at own r h.row);
+      ∙ templates_step s count own (templates_at code places lines at own) p (template_at code places lines (at + 8 * own)) q (count - own) (count - (own + 1)) (omega arith)
+      (g.reads code places lines e f w')
+      ∙ rw (templates_more code places lines at own);
 }
 
-pub filling_end : {s ps₀ rows₀ ps rows : List ℕ} {count at r p own : ℕ} → count ≤ own
-    → Filling s ps₀ rows₀ ps rows count at r p own → FilledAll s ps₀ rows₀ ps rows at count p
-filling_end {s} {ps₀} {rows₀} {ps} {rows} {count} {at} {r} {p} {own} l h =
+pub filling_end : {s ps₀ rows₀ ps rows : List ℕ} {count at p own : ℕ} → count ≤ own
+    → Filling s ps₀ rows₀ ps rows count at p own → FilledAll s ps₀ rows₀ ps rows at count p
+filling_end {s} {ps₀} {rows₀} {ps} {rows} {count} {at} {p} {own} l h =
     let e : own ≡ count = omega (arith, h.few) in
     record {
       reads = λ code places lines f g w. record {
         read = h.is code places lines f g (same_less h.room w)
             ∙ templates_end s count own (templates_at code places lines at own) p (count - own) (drop p s) (omega arith) ∙ rw e;
-        on = omega (arith, h.row, h.room);
+        on = omega (arith, h.room);
         inside = h.inside;
       };
       inside = h.inside;
-      on = omega (arith, h.row, h.room);
+      on = omega (arith, h.room);
       placed = h.placed;
       rowed = h.rowed;
     }
 
 -- An image filled: its count of templates stands at its own place.
-pub fill_image : (s ps rows ps' rows' : List ℕ) (at n p : ℕ) (x : Step) → Reads s at I.word n p → p ≡ at + 2 → at < length rows
-    → FillsAll s ps (set rows at n) ps' rows' p n x → FillsImage s ps rows ps' rows' at x
+pub fill_image : (s ps rows ps' rows' : List ℕ) (at n p next : ℕ) (x : Result Unit ImageError) → Reads s at I.word n p → p ≡ at + 2 → at < length rows
+    → FillsAll s ps (set rows at n) ps' rows' p next n x → FillsImage s ps rows ps' rows' at x
 unfolding image_at
-fill_image s ps rows ps' rows' at n p (Next c) h e l g = record {
+fill_image s ps rows ps' rows' at n p next (Ok _) h e l g = record {
+  next = next;
   reads = λ code places lines f k w.
       let d : get_or lines at 0 ≡ n = w.same at (omega (arith, g.on)) ∙ g.rowed.same at (omega arith) ∙ get_or-set_same rows at n 0 l in
-      let r : Reads s p (I.templates n 0 n) (templates_at code places lines p n) c.at = g.reads code places lines f k w in
+      let r : Reads s p (I.templates n 0 n) (templates_at code places lines p n) next = g.reads code places lines f k w in
       record { read = rw (d, ← e, h.read) r.read; on = omega (arith, r.on); inside = r.inside };
   inside = g.inside;
   placed = same_less (omega arith) g.placed;
   rowed = same_trans (same_set at rows at n (omega arith)) (same_less (omega arith) g.rowed);
 }
-fill_image s ps rows ps' rows' at n p (Stop q) h e l g = rw h.read g
+fill_image s ps rows ps' rows' at n p next (Err q) h e l g = rw h.read g

@@ -1,3 +1,4 @@
+pub mod Errors
 pub mod View
 pub mod Fills
 pub mod Load

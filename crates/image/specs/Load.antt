@@ -1,6 +1,6 @@
 -- What load and the lookups promise. Assumes nothing.
-use Rattle.std.specs.Prelude.{◌≡◌, Bool, true, false, ◌&&◌, List, [], ◌∷◌, ◌++◌, ℕ, ◌+◌, ◌≤◌, ◌<◌, eqb, leb, length, take, get_or}
-use Rattle.std.proofs.Math.Option.{Option, none, some}
+use Rattle.std.specs.Prelude.{◌≡◌, Bool, true, false, ◌&&◌, List, [], ◌∷◌, ◌++◌, ℕ, ◌+◌, ◌≤◌, ◌<◌, eqb, leb, length, take, get_or, Option, Some, None, Result, Ok, Err}
+use Rattle.std.proofs.Math.Option.{Option as Maybe, none, some}
 use Rattle.machine.specs.Image as I
 use Rattle.machine.specs.Image.{Template}
 use Rattle.machine.specs.State.{State, limit, code_store, image_store}
@@ -12,13 +12,10 @@ use Rattle.machine.specs.Host.{Answer, refusal, numbered, perform}
 use Rattle.reader.specs.Constants.{constant_of}
 use Rattle.image.specs.View.{Same, constants_of, images_of}
 use Rattle.image.specs.declared.ImageCounts.{ImageCounts}
-use Rattle.image.specs.declared.Loaded.{Loaded}
-use Rattle.image.specs.declared.Loaded.TheVariants.{Done, Refused}
-use Rattle.image.specs.declared.Space.{Space}
-use Rattle.image.specs.declared.Space.TheVariants.{Free, Full}
-use Rattle.image.specs.declared.FoundConstant.{FoundConstant}
-use Rattle.image.specs.declared.FoundConstant.TheVariants.{Is, Missing}
+use Rattle.image.specs.Errors.{asked}
+use Rattle.image.specs.declared.error.LoadError.{LoadError}
 use Rattle.image.specs.declared.FunctionTemplate.{FunctionTemplate}
+use Rattle.reader.specs.declared.Constant.{Constant}
 
 -- The lent stores: the code, the places of constants, the rows of templates, the images' first bytes.
 pub record Stores : Type 0 where
@@ -36,23 +33,23 @@ abbrev pub listed : Stores → Bool
 listed x = sizes_listed (length x.code) (length x.places) (length x.rows) (length x.starts)
 
 -- The questions in order: 33, then 1 to 7 of the image alone, then 8, then 9.
-abbrev pub or_else : Option ℕ → Option ℕ → Option ℕ
+abbrev pub or_else : Maybe ℕ → Maybe ℕ → Maybe ℕ
 or_else (some q) x = some q
 or_else none x = x
 
-abbrev pub unless : Bool → ℕ → Option ℕ
+abbrev pub unless : Bool → ℕ → Maybe ℕ
 unless true q = none
 unless false q = some q
 
 -- Questions 8 and 9.
-abbrev pub space_refusal : ImageCounts → ℕ → Option ℕ
+abbrev pub space_refusal : ImageCounts → ℕ → Maybe ℕ
 space_refusal c n = or_else (unless (leb (c.code + n) (limit code_store)) 8) (unless (leb (c.images + 1) (limit image_store)) 9)
 
-abbrev pub space_of : Space → Option ℕ
-space_of Free = none
-space_of (Full q) = some q
+abbrev pub space_of : Result Unit LoadError → Maybe ℕ
+space_of (Ok _) = none
+space_of (Err e) = some (asked e)
 
-abbrev pub load_refusal : Bool → ImageCounts → List ℕ → Option ℕ
+abbrev pub load_refusal : Bool → ImageCounts → List ℕ → Maybe ℕ
 load_refusal sized c bs =
     or_else (unless sized 33)
     (or_else (refusal_read (I.image c.code bs)) (space_refusal c (length bs)))
@@ -76,18 +73,22 @@ pub record Sound (x : Stores) (c : ImageCounts) : Type 0 where
   pub inside : c.code ≤ length x.code
   pub steady : (y : Stores) → Agree c x y → images y c.images ≡ images x c.images
 
--- Document 01's answer for each case of the enum, and what is then in use.
-abbrev pub answer_of : Loaded → Answer
-answer_of (Done i d) = numbered i
-answer_of (Refused q) = refusal q
+-- An image's number with what is then in use, or why it is not kept.
+abbrev pub Loaded : Type 0
+Loaded = Result (ℕ × ImageCounts) LoadError
 
-abbrev pub refusal_of : Loaded → Option ℕ
-refusal_of (Done i d) = none
-refusal_of (Refused q) = some q
+-- Document 01's answer for each case, and what is then in use.
+abbrev pub answer_of : Loaded → Answer
+answer_of (Ok p) = numbered p.0
+answer_of (Err e) = refusal (asked e)
+
+abbrev pub refusal_of : Loaded → Maybe ℕ
+refusal_of (Ok p) = none
+refusal_of (Err e) = some (asked e)
 
 abbrev pub counts_of : ImageCounts → Loaded → ImageCounts
-counts_of c (Done i d) = d
-counts_of c (Refused q) = c
+counts_of c (Ok p) = p.1
+counts_of c (Err e) = c
 
 -- x as the call found the stores, y as it left them. An accepted image is behind those that were there.
 pub record Appends (x y : Stores) (c : ImageCounts) (bs : List ℕ) (d : ImageCounts) : Type 0 where
@@ -98,8 +99,8 @@ pub record Appends (x y : Stores) (c : ImageCounts) (bs : List ℕ) (d : ImageCo
 
 -- A refusal alters nothing, not even a place above a count.
 abbrev pub Leaves : Stores → Stores → ImageCounts → List ℕ → Loaded → Type 0
-Leaves x y c bs (Done i d) = (i ≡ c.images) × Appends x y c bs d
-Leaves x y c bs (Refused q) = y ≡ x
+Leaves x y c bs (Ok p) = (p.0 ≡ c.images) × Appends x y c bs p.1
+Leaves x y c bs (Err e) = y ≡ x
 
 -- `machine`: the answer and what is left are those of the machine's call. `older`: images that were there are as they were.
 pub record Loads (x y : Stores) (c : ImageCounts) (bs : List ℕ) (r : Loaded) : Type 0 where
@@ -117,8 +118,8 @@ pub record Fitting (x : Stores) (c : ImageCounts) (bs : List ℕ) : Type 0 where
   pub room : space_refusal c (length bs) ≡ none
 
 abbrev pub AppendSays : Stores → Stores → ImageCounts → List ℕ → Loaded → Type 0
-AppendSays x y c bs (Done i d) = (i ≡ c.images) × Appends x y c bs d
-AppendSays x y c bs (Refused q) = ⊥
+AppendSays x y c bs (Ok p) = (p.0 ≡ c.images) × Appends x y c bs p.1
+AppendSays x y c bs (Err e) = ⊥
 
 -- A template that was looked up, with the constants that it names.
 abbrev pub template_from : List ℕ → List ℕ → FunctionTemplate → Template
@@ -130,6 +131,6 @@ template_from code places t = record {
   size = t.size;
 }
 
-abbrev pub found_of : FoundConstant → Option I.Constant
-found_of (Is k) = some (constant_of k)
-found_of Missing = none
+abbrev pub found_of : Option Constant → Maybe I.Constant
+found_of (Some k) = some (constant_of k)
+found_of None = none

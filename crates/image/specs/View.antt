@@ -54,3 +54,7 @@ images_of s places rows starts n = list (λ i. image_at s places rows (get_or st
 -- ys has what xs has below m.
 pub record Same (m : ℕ) (xs ys : List ℕ) : Type 0 where
   pub same : (j : ℕ) → j < m → get_or ys j 0 ≡ get_or xs j 0
+
+-- bs is nine bytes of the code, from place p on.
+pub record Window (code : List ℕ) (p : ℕ) (bs : List ℕ) : Type 0 where
+  pub same : (j : ℕ) → j < 9 → get_or bs j 0 ≡ get_or code (p + j) 0

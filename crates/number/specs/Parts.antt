@@ -8,7 +8,7 @@ use Rattle.number.specs.declared.parse.Reading.{Reading}
 use Rattle.number.specs.declared.parse.Saved.{Saved}
 use Rattle.number.specs.Parse.{reading_of, saved_of}
 
--- From a reading, the parts, to a reading: `resume` with each part; between them, `save` and `restore` as often as one likes.
+-- From a reading, the parts, to a reading: `resume` with each part; between them, `Saved::from` and `Reading::from` as often as one likes.
 pub data Reads : Reading → List (List ℕ) → Reading → Type 0 where
   done : {r : Reading} → Reads r [] r
   part : {r s z : Reading} {bs : List ℕ} {l : List (List ℕ)} → reading_of s ≡ R.resume (reading_of r) bs → Reads s l z → Reads r (bs ∷ l) z
@@ -29,6 +29,6 @@ module _ {r z : Reading} {l : List (List ℕ)} (begun : reading_of r ≡ R.start
   pub parts_finish : (x : ℕ) → x ≡ R.finish (reading_of z) → x ≡ N.parse_js_number (R.joined l)
   parts_finish x e = e ∙ ap R.finish from_start ∙ one_pass (R.joined l)
 
-  -- .. and what `save` gives then is three numbers of 64 bits.
+  -- .. and what `Saved::from` gives then is three numbers of 64 bits.
   pub parts_save : (p : Saved) → saved_of p ≡ R.save (reading_of z) → Small (saved_of p)
   parts_save p e = subst Small (sym (e ∙ ap R.save from_start)) (small (R.joined l))

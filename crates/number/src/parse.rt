@@ -1,65 +1,34 @@
 //! Text to number in one pass: blanks, an optional `-`, decimal digits, blanks. A text that comes in parts is read part by part, and no byte of it is kept.
-ghost use Rattle.std.specs.Prelude.{◌≡◌, ◌+◌, ◌*◌, ◌≤◌, length, drop};
+ghost use Rattle.std.specs.Prelude.{◌≡◌, ◌+◌, ◌*◌};
 ghost use Rattle.machine.specs.Number as N;
 ghost use Rattle.machine.specs.Reading as R;
 ghost use Rattle.number.specs.Parse.{reading_of, saved_of};
 
-use crate::{JsNumber, wide};
+use crate::JsNumber;
 
 pub fn is_blank(b: u8) -> bool
     ensures { result ≡ N.is_blank b }
 {
-    if b == b' ' {
-        return true;
-    }
-    if b < 9 {
-        return false;
-    }
-    b <= 13
+    matches!(b, b' ' | 9..=13)
 }
 
-pub fn is_digit(b: u8) -> bool
-    ensures { result ≡ N.is_digit b }
-{
-    if b < b'0' {
-        return false;
-    }
-    b <= b'9'
-}
-
-// n * 10 + d, wrapping. The toolchain's product must not overflow, so ten times is eight times and twice.
+// n * 10 + d, wrapping.
 pub(crate) fn with_digit(n: u64, d: u64) -> u64
     ensures { result ≡ N.wrap (n * 10 + d) }
 {
-    let tens = std::num::wrapping_add_u64(n << 3, n << 1);
-    std::num::wrapping_add_u64(tens, d)
+    n.wrapping_mul(10).wrapping_add(d)
 }
 
-fn widened(b: u8) -> u64
-    ensures { result ≡ b }
+// What stands behind the blanks in front.
+fn after_blanks(s: &[u8]) -> &[u8]
+    ensures { result.now ≡ N.cut_front s.now }
 {
-    b as u64
-}
-
-// The place behind the blanks that stand from place i on.
-pub(crate) fn after_blanks(s: &[u8], i: usize) -> usize
-    requires { i ≤ length s.now }
-    ensures { (result ≤ length s.now) × (N.cut_front (drop i s.now) ≡ drop result s.now) }
-{
-    let mut k = i;
-    while k < s.len() {
-        let b = s[k];
-        if is_blank(b) {
-            k += 1;
-        } else {
-            return k;
-        }
-    }
-    k
+    let blanks = s.iter().take_while(|b| is_blank(**b)).count();
+    &s[blanks..]
 }
 
 /// A number text that was read up to some byte.
-#[derive(Clone, Copy)]
+#[derive(Clone, Copy, Debug, PartialEq, Eq)]
 pub enum Reading {
     /// Blanks only.
     Leading,
@@ -72,7 +41,7 @@ pub enum Reading {
 }
 
 /// A reading as three numbers, for a host that keeps it in its own form: 0 to 3 for the variant, 1 for a `-`, the worth of the digits.
-#[derive(Clone, Copy)]
+#[derive(Clone, Copy, Debug, PartialEq, Eq)]
 pub struct Saved {
     pub stage: u64,
     pub minus: u64,
@@ -80,64 +49,48 @@ pub struct Saved {
 }
 
 // The next three read the rest of the bytes, each from one stage on, so that a byte is tested for what may stand there only.
-pub(crate) fn trailing(s: &[u8], i: usize, minus: bool, n: u64) -> Reading
-    requires { i ≤ length s.now }
-    ensures { reading_of result ≡ R.resume (R.trailing minus n) (drop i s.now) }
+fn trailing(s: &[u8], minus: bool, n: u64) -> Reading
+    ensures { reading_of result ≡ R.resume (R.trailing minus n) s.now }
 {
-    let k = after_blanks(s, i);
-    if k < s.len() {
-        return Reading::Invalid;
+    if s.iter().all(|b| is_blank(*b)) {
+        Reading::Trailing(minus, n)
+    } else {
+        Reading::Invalid
     }
-    Reading::Trailing(minus, n)
 }
 
-pub(crate) fn digits(s: &[u8], i: usize, minus: bool, n: u64) -> Reading
-    requires { i ≤ length s.now }
-    ensures { reading_of result ≡ R.resume (R.digits minus n) (drop i s.now) }
+#[tactic(auto, using(crate::specs::Parse::underway_other))]
+fn digits(s: &[u8], minus: bool, n: u64) -> Reading
+    ensures { reading_of result ≡ R.resume (R.digits minus n) s.now }
 {
     let mut worth = n;
-    let mut k = i;
-    while k < s.len() {
-        let b = s[k];
-        if is_digit(b) {
-            worth = with_digit(worth, widened(b) - 48);
-            k += 1;
+    for (k, b) in s.iter().enumerate() {
+        if b.is_ascii_digit() {
+            worth = with_digit(worth, u64::from(*b - b'0'));
+        } else if is_blank(*b) {
+            return trailing(&s[k + 1..], minus, worth);
         } else {
-            if is_blank(b) {
-                return trailing(s, k + 1, minus, worth);
-            }
             return Reading::Invalid;
         }
     }
     Reading::Digits(minus, worth)
 }
 
-pub(crate) fn leading(s: &[u8]) -> Reading
+fn leading(s: &[u8]) -> Reading
     ensures { reading_of result ≡ R.resume R.leading s.now }
 {
-    let i = after_blanks(s, 0);
-    if i < s.len() {
-        if s[i] == b'-' {
-            return digits(s, i + 1, true, 0);
-        }
-        return digits(s, i, false, 0);
+    match after_blanks(s) {
+        [] => Reading::Leading,
+        [b'-', rest @ ..] => digits(rest, true, 0),
+        rest => digits(rest, false, 0),
     }
-    Reading::Leading
 }
 
 fn signed_whole(minus: bool, n: u64) -> JsNumber
     ensures { result.bits ≡ R.signed_whole minus n }
 {
-    let number = JsNumber {
-        bits: wide::whole(n),
-    };
-    if minus { number.neg() } else { number }
-}
-
-fn sign(minus: bool) -> u64
-    ensures { result ≡ R.sign minus }
-{
-    if minus { 1 } else { 0 }
+    let number = JsNumber::js_int(n);
+    if minus { -number } else { number }
 }
 
 impl Reading {
@@ -148,13 +101,14 @@ impl Reading {
     }
 
     /// Reads more bytes of the text, as many as have come.
+    #[tactic(auto, using(machine::proofs::Reading::invalid_stays))]
     pub fn resume(self, s: &[u8]) -> Reading
         ensures { reading_of result ≡ R.resume (reading_of self) s.now }
     {
         match self {
             Reading::Leading => leading(s),
-            Reading::Digits(minus, n) => digits(s, 0, minus, n),
-            Reading::Trailing(minus, n) => trailing(s, 0, minus, n),
+            Reading::Digits(minus, n) => digits(s, minus, n),
+            Reading::Trailing(minus, n) => trailing(s, minus, n),
             Reading::Invalid => Reading::Invalid,
         }
     }
@@ -170,54 +124,44 @@ impl Reading {
             Reading::Invalid => JsNumber::JS_NAN,
         }
     }
+}
 
-    pub fn save(self) -> Saved
-        ensures { saved_of result ≡ R.save (reading_of self) }
-    {
-        match self {
-            Reading::Leading => Saved {
-                stage: 0,
-                minus: 0,
-                worth: 0,
-            },
-            Reading::Digits(minus, n) => Saved {
-                stage: 1,
-                minus: sign(minus),
-                worth: n,
-            },
-            Reading::Trailing(minus, n) => Saved {
-                stage: 2,
-                minus: sign(minus),
-                worth: n,
-            },
-            Reading::Invalid => Saved {
-                stage: 3,
-                minus: 0,
-                worth: 0,
-            },
+impl From<Reading> for Saved {
+    ghost from_gives = { λ r p. saved_of p ≡ R.save (reading_of r) };
+
+    fn from(reading: Reading) -> Saved {
+        let (stage, minus, worth) = match reading {
+            Reading::Leading => (0, false, 0),
+            Reading::Digits(minus, n) => (1, minus, n),
+            Reading::Trailing(minus, n) => (2, minus, n),
+            Reading::Invalid => (3, false, 0),
+        };
+        Saved {
+            stage,
+            minus: u64::from(minus),
+            worth,
         }
     }
+}
 
-    /// The reading that three numbers stand for. A stage above 2 is taken for 3, and another `minus` than 1 for 0.
-    pub fn restore(saved: Saved) -> Reading
-        ensures { reading_of result ≡ R.restore (saved_of saved) }
-    {
+/// The reading that three numbers stand for. A stage above 2 is taken for 3, and another `minus` than 1 for 0.
+impl From<Saved> for Reading {
+    ghost from_gives = { λ p r. reading_of r ≡ R.restore (saved_of p) };
+
+    fn from(saved: Saved) -> Reading {
         let minus = saved.minus == 1;
-        if saved.stage == 0 {
-            return Reading::Leading;
+        match saved.stage {
+            0 => Reading::Leading,
+            1 => Reading::Digits(minus, saved.worth),
+            2 => Reading::Trailing(minus, saved.worth),
+            _ => Reading::Invalid,
         }
-        if saved.stage == 1 {
-            return Reading::Digits(minus, saved.worth);
-        }
-        if saved.stage == 2 {
-            return Reading::Trailing(minus, saved.worth);
-        }
-        Reading::Invalid
     }
 }
 
 impl JsNumber {
     /// The number that a text reads as; a part of a text is lent as `&s[a..b]`.
+    #[tactic(auto, using(machine::proofs::Reading::one_pass))]
     pub fn parse_js_number(s: &[u8]) -> JsNumber
         ensures { result.bits ≡ N.parse_js_number s.now }
     {

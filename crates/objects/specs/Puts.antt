@@ -1,7 +1,7 @@
 -- A property or a global put: changed where it is there, added where it is not. Assumes nothing.
-use Rattle.std.specs.Prelude.{ℕ, ◌+◌, ◌*◌, ◌≤◌, ◌<◌, Bool, true, false, List, [], ◌∷◌, ◌++◌, ◌≡◌, refl}
+use Rattle.std.specs.Prelude.{ℕ, ◌+◌, ◌*◌, ◌≤◌, ◌<◌, Bool, true, false, List, [], ◌∷◌, ◌++◌, ◌≡◌, refl, Option, Some, None, Ok, Err}
 use Rattle.std.proofs.Common.{arith, sym, ap, subst, ◌∙◌, le-leb}
-use Rattle.std.proofs.Math.Option.{Option, none, some}
+use Rattle.std.proofs.Math.Option.{Option as Maybe, none, some}
 use lib.ListN.{length}
 use Rattle.std.proofs.lemmas.Bool.{lt-leb}
 use Rattle.machine.specs.Value as M
@@ -26,9 +26,6 @@ use Rattle.heap.specs.Tables.{table_changed, table_more, set_row_apart, length_s
 use Rattle.heap.specs.Laws.{in_properties, apart_wider, with_properties}
 use Rattle.heap.specs.Finds.{stores, pair_at, name_at}
 use Rattle.heap.specs.declared.Sizes.{Sizes}
-use Rattle.heap.specs.declared.Found.{Found}
-use Rattle.heap.specs.declared.Found.TheVariants.{At, Nothing}
-use Rattle.objects.specs.declared.Placed.TheVariants.{Went, Refused}
 use Rattle.objects.specs.View.{on_stores, Puts, Lays}
 
 -- THE LAW OF ASKING: an act that asks for x rows of a store and then for some bytes of text.
@@ -49,11 +46,11 @@ module _ (a : A.Act) (z : Sizes) (w : List ℕ) (m : ℕ) (t : List ℕ) (q : Sp
     row_fits : rows + x ≤ St.limit (space_of q) → fits (on_stores z w m t s) row ≡ true
     row_fits h = rw (holds s) (le-leb (rows + x) (St.limit (space_of q)) h)
 
-    asked_as : (o : Option St.Store) → Asked (on_stores z w m t s) (row ∷ bytes ∷ []) o → Asked (on_stores z w m t s) (A.needs a (on_stores z w m t s)) o
+    asked_as : (o : Maybe St.Store) → Asked (on_stores z w m t s) (row ∷ bytes ∷ []) o → Asked (on_stores z w m t s) (A.needs a (on_stores z w m t s)) o
     asked_as o k = rw (asks s) k
 
   pub asked_went : (y : Sizes) (e : ℕ) (w' t' : List ℕ) → rows + x ≤ St.limit (space_of q) → m + size ≤ text_limit → Sized y w' → e ≤ text_limit
-      → ((s : St.State) → on_stores y w' e t' s ≡ A.apply a (on_stores z w m t s)) → Puts a z w m t (Went y e) w' t'
+      → ((s : St.State) → on_stores y w' e t' s ≡ A.apply a (on_stores z w m t s)) → Puts a z w m t (Ok (y, e)) w' t'
   asked_went y e w' t' h l good i f = record {
     goes = λ s p. out_make (on_stores z w m t s) a p (calm s)
         (asked_as s none (Asked.yes (row_fits s h) (Asked.yes (rw (used_text s) (le-leb (m + size) text_limit l)) Asked.all)))
@@ -61,13 +58,13 @@ module _ (a : A.Act) (z : Sizes) (w : List ℕ) (m : ℕ) (t : List ℕ) (q : Sp
     ready = (good, i);
   }
 
-  pub asked_full : (w' t' : List ℕ) → w' ≡ w → t' ≡ t → St.limit (space_of q) < rows + x → Puts a z w m t (Refused q) w' t'
+  pub asked_full : (w' t' : List ℕ) → w' ≡ w → t' ≡ t → St.limit (space_of q) < rows + x → Puts a z w m t (Err q) w' t'
   asked_full w' t' d e h = record {
     goes = λ s p. out_refused (on_stores z w m t s) a p (space_of q) (calm s) (asked_as s (some (space_of q)) (Asked.no (rw (holds s) (lt-leb (rows + x) (St.limit (space_of q)) h))));
     ready = (d, e);
   }
 
-  pub asked_long : (w' t' : List ℕ) → w' ≡ w → t' ≡ t → rows + x ≤ St.limit (space_of q) → text_limit < m + size → Puts a z w m t (Refused Text) w' t'
+  pub asked_long : (w' t' : List ℕ) → w' ≡ w → t' ≡ t → rows + x ≤ St.limit (space_of q) → text_limit < m + size → Puts a z w m t (Err Text) w' t'
   asked_long w' t' d e h l = record {
     goes = λ s p. out_refused (on_stores z w m t s) a p St.text_store (calm s)
         (asked_as s (some St.text_store) (Asked.yes (row_fits s h) (Asked.no (rw (used_text s) (lt-leb (m + size) text_limit l)))));
@@ -105,14 +102,14 @@ module _ (z : Sizes) (w : List ℕ) (m : ℕ) (t : List ℕ) (good : Sized z w) 
     size = ap length e ∙ length_set_row w (properties_at + 6 * n) head place size v ∙ good.size;
   }
 
-  module _ (r : Found) (f : Finds (pair_at (bytes_of t m) w o k) n r) (v : Value) where
+  module _ (r : Option ℕ) (f : Finds (pair_at (bytes_of t m) w o k) n r) (v : Value) where
     abbrev act : A.Act
     act = A.put_property o k (value_of v)
 
-    has : (s : St.State) (i : ℕ) → r ≡ At i → St.has_property (on_stores z w m t s) o k ≡ true
+    has : (s : St.State) (i : ℕ) → r ≡ Some i → St.has_property (on_stores z w m t s) o k ≡ true
     has s i e = found_any (St.is_pair (stores s.code (bytes_of t m)) o k) n (λ i. property_of (row_at w (properties_at + 6 * i))) r f i e
 
-    has_not : (s : St.State) → r ≡ Nothing → St.has_property (on_stores z w m t s) o k ≡ false
+    has_not : (s : St.State) → r ≡ None → St.has_property (on_stores z w m t s) o k ≡ false
     has_not s e = found_no (St.is_pair (stores s.code (bytes_of t m)) o k) n (λ i. property_of (row_at w (properties_at + 6 * i))) r f e
 
     holds : (s : St.State) → St.used (on_stores z w m t s) St.property_store ≡ n
@@ -122,9 +119,9 @@ module _ (z : Sizes) (w : List ℕ) (m : ℕ) (t : List ℕ) (good : Sized z w) 
         → A.needs act (on_stores z w m t s) ≡ A.need St.property_store (A.unless b 1) ∷ A.need St.text_store (A.unless b (length k)) ∷ []
     asks b q s = ap (λ (x : Bool). A.need St.property_store (A.unless x 1) ∷ A.need St.text_store (A.unless x (length k)) ∷ []) (q s)
 
-    pub property_there : (i : ℕ) (w' : List ℕ) → r ≡ At i → w' ≡ set_value w (properties_at + 6 * i + 3) v → Puts act z w m t (Went z m) w' t
+    pub property_there : (i : ℕ) (w' : List ℕ) → r ≡ Some i → w' ≡ set_value w (properties_at + 6 * i + 3) v → Puts act z w m t (Ok (z, m)) w' t
     property_there i w' e q =
-        let found : Finds (pair_at (bytes_of t m) w o k) n (At i) = rw e at f in
+        let found : Finds (pair_at (bytes_of t m) w o k) n (Some i) = rw e at f in
         let x = set_value w (properties_at + 6 * i + 3) v in
         let a : Apart w x properties_at globals_at = apart_wider properties_at globals_at (value_apart w (properties_at + 6 * i + 3) v) (omega arith) (omega (arith, found.told.0, good.properties)) in
         asked_went act z w m t Properties n 0 0 (λ s. refl) (asks true (λ s. has s i e)) holds z m w' t (omega (arith, good.properties)) (omega arith)
@@ -137,15 +134,15 @@ module _ (z : Sizes) (w : List ℕ) (m : ℕ) (t : List ℕ) (good : Sized z w) 
         ∙ ap (λ (u : St.State). Fi.set_text (bytes_of t m) u) (in_properties z w x good s n a ∙ ap (λ (u : List St.Property). Fi.set_properties u (on_heap z w s)) changed)
         ∙ sym (ap (λ (b : Bool). A.set_property b o k (value_of v) (on_stores z w m t s)) (has s i e)))
 
-    module _ (e : r ≡ Nothing) where
-      pub property_full : property_limit ≤ n → Puts act z w m t (Refused Properties) w t
+    module _ (e : r ≡ None) where
+      pub property_full : property_limit ≤ n → Puts act z w m t (Err Properties) w t
       property_full l = asked_full act z w m t Properties n 1 (length k) (λ s. refl) (asks false (λ s. has_not s e)) holds w t refl refl (omega arith)
 
-      pub property_long : n < property_limit → text_limit < m + length k → Puts act z w m t (Refused Text) w t
+      pub property_long : n < property_limit → text_limit < m + length k → Puts act z w m t (Err Text) w t
       property_long l g = asked_long act z w m t Properties n 1 (length k) (λ s. refl) (asks false (λ s. has_not s e)) holds w t refl refl (omega arith) g
 
       pub property_new : (i : ℕ) (w' t' : List ℕ) → n < property_limit → m + length k ≤ text_limit → Lays w (properties_at + 6 * n) o k v m t i w' t'
-          → Puts act z w m t (Went (with_properties (n + 1) z) i) w' t'
+          → Puts act z w m t (Ok ((with_properties (n + 1) z), i)) w' t'
       property_new i w' t' l g lay =
           asked_went act z w m t Properties n 1 (length k) (λ s. refl) (asks false (λ s. has_not s e)) holds (with_properties (n + 1) z) i w' t' (omega arith) g
           (property_sized v w' o m (length k) l lay.row)
@@ -158,7 +155,7 @@ pub laid : (w : List ℕ) (k head : ℕ) (key : List ℕ) (v : Value) (m : ℕ) 
 laid w k head key v m t size w' t' e p q = record { count = ap (λ (x : ℕ). m + x) e; row = p ∙ ap (λ (x : ℕ). set_row w k head m x v) e; text = q }
 
 -- Searching by a source
-module _ (t w : List ℕ) (n : ℕ) (r : Found) (k k' : List ℕ) (e : k ≡ k') where
+module _ (t w : List ℕ) (n : ℕ) (r : Option ℕ) (k k' : List ℕ) (e : k ≡ k') where
   pub key_as : (o : ℕ) → Finds (pair_at t w o k) n r → Finds (pair_at t w o k') n r
   key_as o f = subst (λ (x : List ℕ). Finds (pair_at t w o x) n r) e f
 

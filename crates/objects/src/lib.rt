@@ -13,16 +13,9 @@ ghost use Rattle.heap.specs.Rows.{Finds};
 ghost use Rattle.heap.specs.Finds.{pair_at, name_at};
 ghost use Rattle.objects.specs.View.{Puts, Lays};
 
-use heap::{Found, GLOBAL_LIMIT, GLOBALS_AT, PROPERTIES_AT, PROPERTY_LIMIT, Sizes};
+use heap::{GLOBAL_LIMIT, GLOBALS_AT, PROPERTIES_AT, PROPERTY_LIMIT, Sizes};
 use texts::{Source, TEXT_LIMIT};
 use value::{Space, Value};
-
-// What came of an act: how many stand and the bytes of text in use, or the store that refused.
-#[derive(Clone, Copy)]
-pub enum Placed {
-    Went(Sizes, usize),
-    Refused(Space),
-}
 
 // The first property of an owner under a key. The arms are those of `bytes_of`: its answer would tie the three stores to one lifetime, and `text` is lent anew.
 pub fn find_key(
@@ -35,7 +28,7 @@ pub fn find_key(
     buffer: &[u8],
     owner: u64,
     key: Source,
-) -> Found
+) -> Option<usize>
     requires count_le_property_limit { (count ≤ property_limit) × (length heap.now ≡ heap_words) }
     requires n_in_bounds { (n ≤ length code.now) × (m ≤ length text.now) }
     ensures { Finds (pair_at (bytes_of text.now m) heap.now owner (source_bytes (stores_of code.now n text.now m) buffer.now key)) count result }
@@ -72,7 +65,7 @@ fn find_name(
     m: usize,
     buffer: &[u8],
     name: Source,
-) -> Found
+) -> Option<usize>
     requires count_le_global_limit { (count ≤ global_limit) × (length heap.now ≡ heap_words) }
     requires n_in_bounds { (n ≤ length code.now) × (m ≤ length text.now) }
     ensures { Finds (name_at (bytes_of text.now m) heap.now (source_bytes (stores_of code.now n text.now m) buffer.now name)) count result }
@@ -135,27 +128,27 @@ pub fn put_property(
     owner: u64,
     key: Source,
     v: Value,
-) -> Placed
+) -> Result<(Sizes, usize), Space>
     requires sized { Sized z heap.old }
     requires n_in_bounds { (n ≤ length code.now) × (m ≤ text_limit) × (length text.old ≡ text_limit) }
     ensures { Puts (put_property owner (source_bytes (stores_of code.now n text.old m) buffer.now key) (value_of v)) z heap.old m text.old result heap.new text.new }
 {
     let count = z.properties;
-    let Found::At(i) = find_key(heap, count, code, n, text, m, buffer, owner, key) else {
+    let Some(i) = find_key(heap, count, code, n, text, m, buffer, owner, key) else {
         if PROPERTY_LIMIT <= count {
-            return Placed::Refused(Space::Properties);
+            return Err(Space::Properties);
         }
         if TEXT_LIMIT - m < texts::size_of(n, m, buffer.len(), key) {
-            return Placed::Refused(Space::Text);
+            return Err(Space::Text);
         }
         let k = PROPERTIES_AT + 6 * count;
         let e = lay_row(heap, k, code, n, text, m, buffer, owner, key, v);
         let mut y = z;
         y.properties = count + 1;
-        return Placed::Went(y, e);
+        return Ok((y, e));
     };
     value::write(heap, PROPERTIES_AT + 6 * i + 3, v);
-    Placed::Went(z, m)
+    Ok((z, m))
 }
 
 /// A global: questions 26 and 27 where its name is new.
@@ -169,27 +162,27 @@ pub fn put_global(
     buffer: &[u8],
     name: Source,
     v: Value,
-) -> Placed
+) -> Result<(Sizes, usize), Space>
     requires sized { Sized z heap.old }
     requires n_in_bounds { (n ≤ length code.now) × (m ≤ text_limit) × (length text.old ≡ text_limit) }
     ensures { Puts (put_global (source_bytes (stores_of code.now n text.old m) buffer.now name) (plain (value_of v))) z heap.old m text.old result heap.new text.new }
 {
     let count = z.globals;
-    let Found::At(i) = find_name(heap, count, code, n, text, m, buffer, name) else {
+    let Some(i) = find_name(heap, count, code, n, text, m, buffer, name) else {
         if GLOBAL_LIMIT <= count {
-            return Placed::Refused(Space::Globals);
+            return Err(Space::Globals);
         }
         if TEXT_LIMIT - m < texts::size_of(n, m, buffer.len(), name) {
-            return Placed::Refused(Space::Text);
+            return Err(Space::Text);
         }
         let k = GLOBALS_AT + 6 * count;
         let e = lay_row(heap, k, code, n, text, m, buffer, 0, name, v);
         let mut y = z;
         y.globals = count + 1;
-        return Placed::Went(y, e);
+        return Ok((y, e));
     };
     value::write(heap, GLOBALS_AT + 6 * i + 3, v);
-    Placed::Went(z, m)
+    Ok((z, m))
 }
 
 /// A global whose value is a text given as bytes: they are kept behind the name, if this is new, and 27 asks for both at once.
@@ -203,24 +196,24 @@ pub fn put_global_text(
     buffer: &[u8],
     name: Source,
     given: &[u8],
-) -> Placed
+) -> Result<(Sizes, usize), Space>
     requires sized { Sized z heap.old }
     requires n_in_bounds { (n ≤ length code.now) × (m ≤ text_limit) × (length text.old ≡ text_limit) }
     ensures { Puts (put_global (source_bytes (stores_of code.now n text.old m) buffer.now name) (as_bytes given.now)) z heap.old m text.old result heap.new text.new }
 {
     let count = z.globals;
     let long = given.len();
-    let Found::At(i) = find_name(heap, count, code, n, text, m, buffer, name) else {
+    let Some(i) = find_name(heap, count, code, n, text, m, buffer, name) else {
         if GLOBAL_LIMIT <= count {
-            return Placed::Refused(Space::Globals);
+            return Err(Space::Globals);
         }
         let size = texts::size_of(n, m, buffer.len(), name);
         if TEXT_LIMIT - m < size {
-            return Placed::Refused(Space::Text);
+            return Err(Space::Text);
         }
         let at = m + size;
         if TEXT_LIMIT - at < long {
-            return Placed::Refused(Space::Text);
+            return Err(Space::Text);
         }
         let k = GLOBALS_AT + 6 * count;
         let made = Value::MadeText(at as u64, long as u64);
@@ -229,13 +222,13 @@ pub fn put_global_text(
         let end = e + long;
         let mut more = z;
         more.globals = count + 1;
-        return Placed::Went(more, end);
+        return Ok((more, end));
     };
     if TEXT_LIMIT - m < long {
-        return Placed::Refused(Space::Text);
+        return Err(Space::Text);
     }
     texts::copy(text, m, given);
     let made = Value::MadeText(m as u64, long as u64);
     value::write(heap, GLOBALS_AT + 6 * i + 3, made);
-    Placed::Went(z, m + long)
+    Ok((z, m + long))
 }

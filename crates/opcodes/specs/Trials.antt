@@ -1,5 +1,5 @@
 -- What trying an instruction's code comes to. Assumes nothing.
-use Rattle.std.specs.Prelude.{ℕ, zero, suc, ◌+◌, ◌-◌, ◌*◌, ◌≤◌, ◌<◌, Bool, List, [], ◌∷◌, ◌≡◌, refl, eqb, length, get_or, replicate}
+use Rattle.std.specs.Prelude.{ℕ, zero, suc, ◌+◌, ◌-◌, ◌*◌, ◌≤◌, ◌<◌, Bool, List, [], ◌∷◌, ◌≡◌, refl, eqb, length, get_or, replicate, Result, Ok, Err}
 use Rattle.std.proofs.Common.{arith, sym, ap, ap₂, subst, ◌∙◌, ne_eqb}
 use Rattle.std.proofs.Math.Decide.{dec_lt}
 use Rattle.std.proofs.lemmas.List.{get_or-replicate}
@@ -28,8 +28,6 @@ use Rattle.heap.specs.Layout.{objects_at, properties_at, globals_at}
 use Rattle.heap.specs.View.{function_at, kind_at, row_at, property_of, global_of}
 use Rattle.image.specs.View.{images_of, image_at, templates_at, template_at, constants_of}
 use Rattle.outcome.specs.Meets.{end_of}
-use Rattle.outcome.specs.declared.End.{End}
-use Rattle.outcome.specs.declared.End.TheVariants.{Finished, Failed}
 use Rattle.fetch.specs.declared.Running.{Running}
 use Rattle.fetch.specs.Running.{Known, Runs}
 use Rattle.outcome.specs.declared.Stepped.{Stepped}
@@ -197,12 +195,12 @@ module _ (t : Turned) where
   tells_leaves e f = tells_as Went _ e
       (λ m s o k. sym (ap attempt_in k ∙ (λ i. record { number = 0; standing = (standing_is m s ∙ ap (λ (b : Bool). if b then t.counts.depths.operands else 0) (ne_eqb t.counts.depths.frames 1 f)) i })))
 
-  pub tells_finished : {e : End} {v : Value} → t.how ≡ Ended e → e ≡ Finished v → Tells t (record { number = 0; standing = 0 })
-  tells_finished {e} {v} q p = tells_as (Ended e) _ q (λ m s o k. sym (ap attempt_in k ∙ ap (λ (y : End). attempt_in (ended (end_of y) (state_of t.counts m s))) p))
+  pub tells_finished : {e : Result Value JsVmError} {v : Value} → t.how ≡ Ended e → e ≡ Ok v → Tells t (record { number = 0; standing = 0 })
+  tells_finished {e} {v} q p = tells_as (Ended e) _ q (λ m s o k. sym (ap attempt_in k ∙ ap (λ (y : Result Value JsVmError). attempt_in (ended (end_of y) (state_of t.counts m s))) p))
 
-  pub tells_failed : {e : End} {x : JsVmError} {n : ℕ} → t.how ≡ Ended e → e ≡ Failed x → n ≡ error_number (error_of x) → Tells t (record { number = n; standing = 0 })
+  pub tells_failed : {e : Result Value JsVmError} {x : JsVmError} {n : ℕ} → t.how ≡ Ended e → e ≡ Err x → n ≡ error_number (error_of x) → Tells t (record { number = n; standing = 0 })
   tells_failed {e} {x} {n} q p g = tells_as (Ended e) _ q
-      (λ m s o k. (λ i. record { number = g i; standing = 0 }) ∙ sym (ap attempt_in k ∙ ap (λ (y : End). attempt_in (ended (end_of y) (state_of t.counts m s))) p))
+      (λ m s o k. (λ i. record { number = g i; standing = 0 }) ∙ sym (ap attempt_in k ∙ ap (λ (y : Result Value JsVmError). attempt_in (ended (end_of y) (state_of t.counts m s))) p))
 
   pub tells_refused : {x : Space} {n : ℕ} → t.how ≡ Refused x → n ≡ St.question (space_of x) → Tells t (record { number = n; standing = 0 })
   tells_refused {x} {n} q g = tells_as (Refused x) _ q (λ m s o k. (λ i. record { number = g i; standing = 0 }) ∙ sym (ap attempt_in k))

@@ -14,7 +14,6 @@ ghost use Rattle.opcodes.specs.Trials.{Objects, Tells, attempt_by};
 use fetch::Running;
 use heap::{HEAP_WORDS, Sizes};
 use heapops::{Counts, How, Turned};
-use outcome::End;
 use stacks::{Depths, STACK_WORDS};
 use texts::{OUTPUT_LIMIT, TEXT_LIMIT};
 use value::Value;
@@ -87,17 +86,17 @@ fn attempted(t: Turned) -> Attempt
             }
         }
         How::Ended(e) => match e {
-            End::Finished(_) => Attempt {
+            Ok(_) => Attempt {
                 number: 0,
                 standing: 0,
             },
-            End::Failed(q) => Attempt {
-                number: run::error_number(q),
+            Err(q) => Attempt {
+                number: u64::from(q),
                 standing: 0,
             },
         },
         How::Refused(q) => Attempt {
-            number: run::question(q),
+            number: u64::from(q),
             standing: 0,
         },
     }

@@ -1,6 +1,6 @@
 -- What an instruction's function ensures, and how it is followed through the machine's program: one law for each way that a program goes on.
 -- Assumes nothing.
-use Rattle.std.specs.Prelude.{ℕ, ◌+◌, ◌*◌, ◌≤◌, List, [], ◌++◌, length, ◌≡◌, refl}
+use Rattle.std.specs.Prelude.{ℕ, ◌+◌, ◌*◌, ◌≤◌, List, [], ◌++◌, length, ◌≡◌, refl, Option, Some, None, Result, Ok, Err}
 use Rattle.std.proofs.Common.{sym, ap, subst, ◌∙◌}
 use Rattle.machine.specs.Value as M
 use Rattle.machine.specs.State as St
@@ -19,23 +19,17 @@ use Rattle.value.specs.declared.JsVmError.{JsVmError}
 use Rattle.value.specs.declared.JsVmError.TheVariants.{StackUnderflow}
 use Rattle.value.specs.declared.Value.{Value}
 use Rattle.stacks.specs.declared.Depths.{Depths}
-use Rattle.stacks.specs.declared.Made.{Made}
-use Rattle.stacks.specs.declared.Made.TheVariants.{Went as Made-as-Went, Failed as Made-as-Failed, Refused as Made-as-Refused}
-use Rattle.stacks.specs.declared.Popped.{Popped}
-use Rattle.stacks.specs.declared.Popped.TheVariants.{Took, Empty}
 use Rattle.stacks.specs.View
 use Rattle.stacks.specs.Laws.{with_operands, with_ip, jumped}
-use Rattle.outcome.specs.declared.End.{End}
-use Rattle.outcome.specs.declared.End.TheVariants.{Finished, Failed}
-use Rattle.outcome.specs.declared.Pair.{Pair}
-use Rattle.outcome.specs.declared.Pair.TheVariants.{Both, Short}
 use Rattle.outcome.specs.declared.Part.{Part}
 use Rattle.outcome.specs.declared.Part.TheVariants.{Went, Ended, Refused, Register, Join, Print, More}
 use Rattle.outcome.specs.declared.Stepped.{Stepped}
+use Rattle.value.specs.declared.Stop.{Stop}
+use Rattle.value.specs.declared.Stop.TheVariants.{Failed, Refused}
 
-abbrev pub end_of : End → P.End
-end_of (Finished v) = P.finished (value_of v)
-end_of (Failed e) = P.failed (error_of e)
+abbrev pub end_of : Result Value JsVmError → P.End
+end_of (Ok v) = P.finished (value_of v)
+end_of (Err e) = P.failed (error_of e)
 
 abbrev pub stepped : Depths → Part → Stepped
 stepped d h = record { depths = d; how = h }
@@ -88,24 +82,27 @@ any m = weaken (λ s k. tt) m
 
 -- the answers of the shared functions
 abbrev pub underflow_of : Depths → Stepped
-underflow_of d = stepped (with_operands 0 d) (Ended (Failed StackUnderflow))
+underflow_of d = stepped (with_operands 0 d) (Ended (Err StackUnderflow))
 
-abbrev pub settled_of : Made → Depths → Stepped
-settled_of (Made-as-Went e) d = stepped e Went
-settled_of (Made-as-Failed e) d = stepped d (Ended (Failed e))
-settled_of (Made-as-Refused q) d = stepped d (Refused q)
+abbrev pub stopped_by : Stop → Depths → Stepped
+stopped_by (Failed e) d = stepped d (Ended (Err e))
+stopped_by (Refused q) d = stepped d (Refused q)
 
-settled_out : (r : Made) (d : Depths) (w : List ℕ) (s : St.State) (o : Out) → o ≡ View.made_then r next d w s → Tells (settled_of r d).how (settled_of r d).depths w s o
-settled_out (Made-as-Went e) d w s o g = g ∙ out_next (View.on_stacks e w s)
-settled_out (Made-as-Failed e) d w s o g = g
-settled_out (Made-as-Refused q) d w s o g = g
+abbrev pub settled_of : Result Depths Stop → Depths → Stepped
+settled_of (Ok e) d = stepped e Went
+settled_of (Err q) d = stopped_by q d
 
-settled_kept : (r : Made) (d : Depths) (w w' : List ℕ) → View.MadeReady r w w' → KeptOf (settled_of r d).how (settled_of r d).depths w w'
-settled_kept (Made-as-Went e) d w w' k = tt
-settled_kept (Made-as-Failed e) d w w' k = tt
-settled_kept (Made-as-Refused q) d w w' k = k
+settled_out : (r : Result Depths Stop) (d : Depths) (w : List ℕ) (s : St.State) (o : Out) → o ≡ View.made_then r next d w s → Tells (settled_of r d).how (settled_of r d).depths w s o
+settled_out (Ok e) d w s o g = g ∙ out_next (View.on_stacks e w s)
+settled_out (Err (Failed e)) d w s o g = g
+settled_out (Err (Refused q)) d w s o g = g
 
-pub pop_ready : {d e : Depths} {w : List ℕ} {q : Popped} {v : Value} → View.Pops d w q → q ≡ Took v e → View.Ready e w
+settled_kept : (r : Result Depths Stop) (d : Depths) (w w' : List ℕ) → View.MadeReady r w w' → KeptOf (settled_of r d).how (settled_of r d).depths w w'
+settled_kept (Ok e) d w w' k = tt
+settled_kept (Err (Failed e)) d w w' k = tt
+settled_kept (Err (Refused q)) d w w' k = k
+
+pub pop_ready : {d e : Depths} {w : List ℕ} {q : Option (Value × Depths)} {v : Value} → View.Pops d w q → q ≡ Some (v, e) → View.Ready e w
 pop_ready f g = rw g at f.ready
 
 -- no operand stands: the depths without operands are the same
@@ -123,7 +120,7 @@ module _ {H : St.State → Type 0} where
     kept = subst (λ (u : List ℕ). KeptOf x.how x.depths u w') g m.kept;
   }
 
-  pub settles : {a : A.Act} {d : Depths} {w w' : List ℕ} {r : Made} {x : Stepped} → View.Makes a d w r w' → x ≡ settled_of r d → Meets H (make a next) d w x w'
+  pub settles : {a : A.Act} {d : Depths} {w w' : List ℕ} {r : Result Depths Stop} {x : Stepped} → View.Makes a d w r w' → x ≡ settled_of r d → Meets H (make a next) d w x w'
   settles {a} {d} {w} {w'} {r} {x} m e =
       subst (λ (y : Stepped). Meets H (make a next) d w y w') (sym e)
       (record { goes = λ s h. settled_out r d w' s (out (make a next) (View.on_stacks d w s)) (m.goes s next); kept = settled_kept r d w w' m.ready })
@@ -132,12 +129,12 @@ module _ {H : St.State → Type 0} where
       → ((s : St.State) → H s → f (View.on_stacks d w s) ≡ p) → Meets H p d w x w' → Meets H (look f) d w x w'
   after_look {f} {p} {d} {w} e m = onward (λ s h. out_look (View.on_stacks d w s) f ∙ ap (λ (q : Program). out q (View.on_stacks d w s)) (e s h)) refl m
 
-  pub after_pop : (k : M.Value → Program) {d e : Depths} {w w' : List ℕ} {q : Popped} {v : Value} {x : Stepped}
-      → View.Pops d w q → q ≡ Took v e → Meets H (k (value_of v)) e w x w' → Meets H (I.pop k) d w x w'
+  pub after_pop : (k : M.Value → Program) {d e : Depths} {w w' : List ℕ} {q : Option (Value × Depths)} {v : Value} {x : Stepped}
+      → View.Pops d w q → q ≡ Some (v, e) → Meets H (k (value_of v)) e w x w' → Meets H (I.pop k) d w x w'
   after_pop k {d} {e} {w} {w'} {q} {v} f g m = onward
       (λ s h. ap (out (I.pop k)) ((rw g at f.state) s) ∙ out_pop (A.apply (A.push (value_of v)) (View.on_stacks e w s)) k (value_of v) (View.on_stacks e w s).operands refl) refl m
 
-  pub pop_fails : (k : M.Value → Program) {d : Depths} {w : List ℕ} {q : Popped} {x : Stepped} → View.Pops d w q → q ≡ Empty → x ≡ underflow_of d → Meets H (I.pop k) d w x w
+  pub pop_fails : (k : M.Value → Program) {d : Depths} {w : List ℕ} {q : Option (Value × Depths)} {x : Stepped} → View.Pops d w q → q ≡ None → x ≡ underflow_of d → Meets H (I.pop k) d w x w
   pop_fails k {d} {w} f g e =
       let z : View.operands_of w d.operands ≡ [] = rw g at f.state in
       subst (λ (y : Stepped). Meets H (I.pop k) d w y w) (sym e) (record {
@@ -153,11 +150,11 @@ module _ {H : St.State → Type 0} where
   pub goes_on : {d : Depths} {w : List ℕ} {x : Stepped} → x ≡ stepped d Went → Meets H next d w x w
   goes_on {d} {w} e = subst (λ (y : Stepped). Meets H next d w y w) (sym e) (record { goes = λ s h. out_next (View.on_stacks d w s); kept = tt })
 
-  pub ends : {e : End} {d : Depths} {w : List ℕ} {x : Stepped} → x ≡ stepped d (Ended e) → Meets H (end (end_of e)) d w x w
+  pub ends : {e : Result Value JsVmError} {d : Depths} {w : List ℕ} {x : Stepped} → x ≡ stepped d (Ended e) → Meets H (end (end_of e)) d w x w
   ends {e} {d} {w} g = subst (λ (y : Stepped). Meets H (end (end_of e)) d w y w) (sym g) (record { goes = λ s h. out_end (View.on_stacks d w s) (end_of e); kept = tt })
 
-  pub fails : {e : JsVmError} {d : Depths} {w : List ℕ} {x : Stepped} → x ≡ stepped d (Ended (Failed e)) → Meets H (end (P.failed (error_of e))) d w x w
-  fails {e} g = ends {e = Failed e} g
+  pub fails : {e : JsVmError} {d : Depths} {w : List ℕ} {x : Stepped} → x ≡ stepped d (Ended (Err e)) → Meets H (end (P.failed (error_of e))) d w x w
+  fails {e} g = ends {e = Err e} g
 
   pub jumps : {p : ℕ} {d e : Depths} {w : List ℕ} {x : Stepped} → e ≡ with_ip p d → x ≡ stepped e Went → Meets H (make (A.jump p) next) d w x w
   jumps {p} {d} {e} {w} g f =
@@ -178,22 +175,22 @@ module _ {H : St.State → Type 0} where
   left_print {k} {d} {w} r f e = subst (λ (y : Stepped). Meets H (prints (View.arguments w (d.operands + 1) k)) d w y w) (sym e) (record { goes = λ s h. refl; kept = (refl, r, f) })
 
 -- Two operands
-abbrev pub pair_then : Pair → (St.Bytes → M.Value → M.Value → Program) → Depths → List ℕ → St.State → Out
-pair_then (Both a b e) k d w s = out (k (St.bytes s) (value_of a) (value_of b)) (View.on_stacks e w s)
-pair_then Short k d w s = ended (P.failed (error_of StackUnderflow)) (View.on_stacks (with_operands 0 d) w s)
+abbrev pub pair_then : Option (Value × Value × Depths) → (St.Bytes → M.Value → M.Value → Program) → Depths → List ℕ → St.State → Out
+pair_then (Some (a, b, e)) k d w s = out (k (St.bytes s) (value_of a) (value_of b)) (View.on_stacks e w s)
+pair_then None k d w s = ended (P.failed (error_of StackUnderflow)) (View.on_stacks (with_operands 0 d) w s)
 
-abbrev pub PairReady : Pair → List ℕ → Type 0
-PairReady (Both a b e) w = View.Ready e w
-PairReady Short w = Unit {0}
+abbrev pub PairReady : Option (Value × Value × Depths) → List ℕ → Type 0
+PairReady (Some (a, b, e)) w = View.Ready e w
+PairReady None w = Unit {0}
 
-pub record Pairs (d : Depths) (w : List ℕ) (r : Pair) : Type 0 where
+pub record Pairs (d : Depths) (w : List ℕ) (r : Option (Value × Value × Depths)) : Type 0 where
   pub goes : (s : St.State) (k : St.Bytes → M.Value → M.Value → Program) → out (I.pop_two k) (View.on_stacks d w s) ≡ pair_then r k d w s
   pub ready : PairReady r w
 
-pub pair_ready : {d e : Depths} {w : List ℕ} {r : Pair} {a b : Value} → Pairs d w r → r ≡ Both a b e → View.Ready e w
+pub pair_ready : {d e : Depths} {w : List ℕ} {r : Option (Value × Value × Depths)} {a b : Value} → Pairs d w r → r ≡ Some (a, b, e) → View.Ready e w
 pair_ready f g = rw g at f.ready
 
-pub pair_none : {d : Depths} {w : List ℕ} {q : Popped} → View.Pops d w q → q ≡ Empty → Pairs d w Short
+pub pair_none : {d : Depths} {w : List ℕ} {q : Option (Value × Depths)} → View.Pops d w q → q ≡ None → Pairs d w None
 pair_none {d} {w} f g =
     let z : View.operands_of w d.operands ≡ [] = rw g at f.state in
     record {
@@ -203,7 +200,7 @@ pair_none {d} {w} f g =
     }
 
 -- what is left of one operand, below the one that was popped
-module _ {d e : Depths} {w : List ℕ} {q : Popped} {v : Value} (f : View.Pops d w q) (g : q ≡ Took v e) where
+module _ {d e : Depths} {w : List ℕ} {q : Option (Value × Depths)} {v : Value} (f : View.Pops d w q) (g : q ≡ Some (v, e)) where
   first : (s : St.State) (k : St.Bytes → M.Value → M.Value → Program) → out (I.pop_two k) (View.on_stacks d w s) ≡ out (I.pop λ a. look λ s. k (St.bytes s) a (value_of v)) (View.on_stacks e w s)
   first s k =
       ap (out (I.pop_two k)) ((rw g at f.state) s)
@@ -212,7 +209,7 @@ module _ {d e : Depths} {w : List ℕ} {q : Popped} {v : Value} (f : View.Pops d
   bare : (s : St.State) → View.on_stacks (with_operands 0 e) w s ≡ View.on_stacks (with_operands 0 d) w s
   bare s = ap (Fi.set_operands (View.operands_of w 0)) (sym ((rw g at f.state) s))
 
-  pub pair_one : {r : Popped} → View.Pops e w r → r ≡ Empty → Pairs d w Short
+  pub pair_one : {r : Option (Value × Depths)} → View.Pops e w r → r ≡ None → Pairs d w None
   pair_one h i =
       let z : View.operands_of w e.operands ≡ [] = rw i at h.state in
       record {
@@ -221,7 +218,7 @@ module _ {d e : Depths} {w : List ℕ} {q : Popped} {v : Value} (f : View.Pops d
         ready = tt;
       }
 
-  pub pair_both : {c : Depths} {r : Popped} {u : Value} → View.Pops e w r → r ≡ Took u c → Pairs d w (Both u v c)
+  pub pair_both : {c : Depths} {r : Option (Value × Depths)} {u : Value} → View.Pops e w r → r ≡ Some (u, c) → Pairs d w (Some (u, v, c))
   pair_both {c} {r} {u} h i = record {
     goes = λ s k.
         first s k
@@ -232,9 +229,9 @@ module _ {d e : Depths} {w : List ℕ} {q : Popped} {v : Value} (f : View.Pops d
   }
 
 -- THE LAW OF TWO OPERANDS, for whatever goes on with them
-module _ {H : St.State → Type 0} (k : St.Bytes → M.Value → M.Value → Program) {d : Depths} {w : List ℕ} {r : Pair} {x : Stepped} (p : Pairs d w r) where
-  pub two_fail : r ≡ Short → x ≡ underflow_of d → Meets H (I.pop_two k) d w x w
-  two_fail g e = subst (λ (y : Stepped). Meets H (I.pop_two k) d w y w) (sym e) (record { goes = λ s h. p.goes s k ∙ ap (λ (y : Pair). pair_then y k d w s) g; kept = tt })
+module _ {H : St.State → Type 0} (k : St.Bytes → M.Value → M.Value → Program) {d : Depths} {w : List ℕ} {r : Option (Value × Value × Depths)} {x : Stepped} (p : Pairs d w r) where
+  pub two_fail : r ≡ None → x ≡ underflow_of d → Meets H (I.pop_two k) d w x w
+  two_fail g e = subst (λ (y : Stepped). Meets H (I.pop_two k) d w y w) (sym e) (record { goes = λ s h. p.goes s k ∙ ap (λ (y : Option (Value × Value × Depths)). pair_then y k d w s) g; kept = tt })
 
-  pub after_two : {q : Program} {a b : Value} {e : Depths} {w' : List ℕ} → r ≡ Both a b e → ((s : St.State) → H s → k (St.bytes s) (value_of a) (value_of b) ≡ q) → Meets H q e w x w' → Meets H (I.pop_two k) d w x w'
-  after_two {q} {a} {b} {e} g f m = onward (λ s h. p.goes s k ∙ ap (λ (y : Pair). pair_then y k d w s) g ∙ ap (λ (u : Program). out u (View.on_stacks e w s)) (f s h)) refl m
+  pub after_two : {q : Program} {a b : Value} {e : Depths} {w' : List ℕ} → r ≡ Some (a, b, e) → ((s : St.State) → H s → k (St.bytes s) (value_of a) (value_of b) ≡ q) → Meets H q e w x w' → Meets H (I.pop_two k) d w x w'
+  after_two {q} {a} {b} {e} g f m = onward (λ s h. p.goes s k ∙ ap (λ (y : Option (Value × Value × Depths)). pair_then y k d w s) g ∙ ap (λ (u : Program). out u (View.on_stacks e w s)) (f s h)) refl m

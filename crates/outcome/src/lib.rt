@@ -1,31 +1,22 @@
 //! What comes of an instruction, and the steps that many instructions share.
 #![tactic(auto)]
 
-ghost use Rattle.std.specs.Prelude.{◌≡◌, ℕ};
+ghost use Rattle.std.specs.Prelude.{◌≡◌};
 ghost use Rattle.machine.specs.Instruction.{pushed};
 ghost use Rattle.value.specs.Words.{value_of};
 ghost use Rattle.stacks.specs.View.{Ready};
-ghost use Rattle.stacks.specs.Laws.{with_operands, with_ip};
-ghost use Rattle.outcome.specs.Meets.{Meets, Any, stepped, settled_of, Pairs, underflow_of};
-ghost use Rattle.outcome.specs.declared.End.TheVariants.{Failed};
+ghost use Rattle.outcome.specs.Meets.{Meets, Any, stepped, settled_of, stopped_by, Pairs, underflow_of};
 ghost use Rattle.outcome.specs.declared.Part.TheVariants.{Went, Ended};
 
-use stacks::{Depths, Made, Popped};
-use value::{JsVmError, Space, Value};
-
-// How an instruction ends the run: with a result, or with an error of 000.
-#[derive(Clone, Copy)]
-pub enum End {
-    Finished(Value),
-    Failed(JsVmError),
-}
+use stacks::Depths;
+use value::{JsVmError, Space, Stop, Value};
 
 // How an instruction came out, as far as it is one on the stacks: it went on, it ended the run, or a store refused. Else it says what is left to do with the
 // other stores: register a function (an image and a template), join the texts of two values, print so many arguments, or all of the instruction.
 #[derive(Clone, Copy)]
 pub enum Part {
     Went,
-    Ended(End),
+    Ended(Result<Value, JsVmError>),
     Refused(Space),
     Register(u64, u64),
     Join(Value, Value),
@@ -40,29 +31,6 @@ pub struct Stepped {
     pub how: Part,
 }
 
-// The two newest operands, the older one first.
-#[derive(Clone, Copy)]
-pub enum Pair {
-    Both(Value, Value, Depths),
-    Short,
-}
-
-pub fn with_operands(d: Depths, n: usize) -> Depths
-    ensures { result ≡ with_operands n d }
-{
-    let mut e = d;
-    e.operands = n;
-    e
-}
-
-pub fn with_ip(d: Depths, p: usize) -> Depths
-    ensures { result ≡ with_ip p d }
-{
-    let mut e = d;
-    e.ip = p;
-    e
-}
-
 pub fn went(d: Depths) -> Stepped
     ensures { result ≡ stepped d Went }
 {
@@ -72,7 +40,7 @@ pub fn went(d: Depths) -> Stepped
     }
 }
 
-pub fn ended(e: End, d: Depths) -> Stepped
+pub fn ended(e: Result<Value, JsVmError>, d: Depths) -> Stepped
     ensures { result ≡ stepped d (Ended e) }
 {
     Stepped {
@@ -82,9 +50,9 @@ pub fn ended(e: End, d: Depths) -> Stepped
 }
 
 pub fn failed(e: JsVmError, d: Depths) -> Stepped
-    ensures { result ≡ stepped d (Ended (Failed e)) }
+    ensures { result ≡ stepped d (Ended (Err e)) }
 {
-    ended(End::Failed(e), d)
+    ended(Err(e), d)
 }
 
 pub fn left_to_do(how: Part, d: Depths) -> Stepped
@@ -97,20 +65,29 @@ pub fn left_to_do(how: Part, d: Depths) -> Stepped
 pub fn underflow(d: Depths) -> Stepped
     ensures { result ≡ underflow_of d }
 {
-    failed(JsVmError::StackUnderflow, with_operands(d, 0))
+    failed(JsVmError::StackUnderflow, d.with_operands(0))
 }
 
-// The end of an instruction whose last act is one on the stacks.
-pub fn settle(r: Made, d: Depths) -> Stepped
-    ensures { result ≡ settled_of r d }
+// An act that was not made ends the instruction.
+pub fn stopped(s: Stop, d: Depths) -> Stepped
+    ensures { result ≡ stopped_by s d }
 {
-    match r {
-        Made::Went(e) => went(e),
-        Made::Failed(e) => failed(e, d),
-        Made::Refused(q) => Stepped {
+    match s {
+        Stop::Failed(e) => failed(e, d),
+        Stop::Refused(q) => Stepped {
             depths: d,
             how: Part::Refused(q),
         },
+    }
+}
+
+// The end of an instruction whose last act is one on the stacks.
+pub fn settle(r: Result<Depths, Stop>, d: Depths) -> Stepped
+    ensures { result ≡ settled_of r d }
+{
+    match r {
+        Ok(e) => went(e),
+        Err(s) => stopped(s, d),
     }
 }
 
@@ -118,18 +95,14 @@ pub fn push_value(d: Depths, stacks: &mut [u64], v: Value) -> Stepped
     requires { Ready d stacks.old }
     ensures { Meets Any (pushed (value_of v)) d stacks.old result stacks.new }
 {
-    settle(stacks::push(d, stacks, v), d)
+    settle(d.push(stacks, v), d)
 }
 
-pub fn pop_two(d: Depths, stacks: &[u64]) -> Pair
+pub fn pop_two(d: Depths, stacks: &[u64]) -> Option<(Value, Value, Depths)>
     requires { Ready d stacks.now }
     ensures { Pairs d stacks.now result }
 {
-    let Popped::Took(b, e) = stacks::pop(d, stacks) else {
-        return Pair::Short;
-    };
-    let Popped::Took(a, f) = stacks::pop(e, stacks) else {
-        return Pair::Short;
-    };
-    Pair::Both(a, b, f)
+    let (b, e) = d.pop(stacks)?;
+    let (a, f) = e.pop(stacks)?;
+    Some((a, b, f))
 }

@@ -1,5 +1,6 @@
 -- What a quick instruction ensures, and how it is followed through the machine's program. Assumes nothing.
-use Rattle.std.specs.Prelude.{ℕ, ◌+◌, ◌-◌, ◌*◌, ◌≤◌, ◌<◌, min, false, List, ◌∷◌, ◌≡◌, refl, length, get_or}
+use Rattle.std.specs.Prelude.{ℕ, ◌+◌, ◌-◌, ◌*◌, ◌≤◌, ◌<◌, min, false, List, ◌∷◌, ◌≡◌, refl, length, get_or, Option, Some, None, Result, Ok, Err}
+use Rattle.std.specs.Result.{result_ok}
 use Rattle.std.proofs.Common.{arith, sym, ap, subst, ◌∙◌}
 use Rattle.machine.specs.Value as M
 use Rattle.machine.specs.State as St
@@ -19,20 +20,17 @@ use Rattle.stacks.specs.Places.{spot_within, spot_store}
 use Rattle.stacks.specs.declared.Handler.{Handler}
 use Rattle.stacks.specs.View
 use Rattle.stacks.specs.declared.Depths.{Depths}
-use Rattle.stacks.specs.declared.Made.{Made}
-use Rattle.stacks.specs.declared.Made.TheVariants.{Went as Made-as-Went, Failed as Made-as-Failed, Refused as Made-as-Refused}
 use Rattle.outcome.specs.Meets.{Meets, Any, stepped, settles, weaken, any, onward, after_look, after_gives, goes_on, jumps}
 use Rattle.stackops.specs.Control.{after_made}
 use Rattle.outcome.specs.declared.Part.TheVariants.{Went as Part-as-Went}
 use Rattle.outcome.specs.declared.Stepped.{Stepped}
 use Rattle.fetch.specs.declared.Running.{Running}
-use Rattle.fetch.specs.declared.Fetched.TheVariants.{Got}
 use Rattle.fetch.specs.Running.{Runs, Coded, Fetches, FetchesWord, byte_in, reads_there, word_got, after_fetch}
 use Rattle.dispatch.specs.Dispatch.{body_go}
 use Rattle.quick.specs.declared.Here.{Here}
 use Rattle.quick.specs.Stays.{Stays, InFrame, stays_went, kept_within, within, below_frames, above_frames, frame_kept, frame_spot, frame_row, frame_row_is}
-use Rattle.quick.specs.declared.Quick.{Quick}
-use Rattle.quick.specs.declared.Quick.TheVariants.{Went, Left}
+use Rattle.value.specs.declared.Stop.{Stop}
+use Rattle.value.specs.declared.Stop.TheVariants.{Failed, Refused}
 
 -- the template's code is among the n bytes that are loaded
 pub record Inside (x : Running) (n : ℕ) (code : List ℕ) : Type 0 where
@@ -40,65 +38,69 @@ pub record Inside (x : Running) (n : ℕ) (code : List ℕ) : Type 0 where
   pub stored : n ≤ length code
 
 -- THE CONTRACT of a quick instruction: it went, as the machine's program p does in every state of which H holds; or it is left, and the words are as they were.
-abbrev pub Told : (St.State → Type 0) → Program → Depths → List ℕ → Quick → List ℕ → Type 0
-Told H p d w (Went e) w' = Meets H p d w (stepped e Part-as-Went) w' × View.Ready e w'
-Told H p d w Left w' = w' ≡ w
+abbrev pub Told : (St.State → Type 0) → Program → Depths → List ℕ → Option Depths → List ℕ → Type 0
+Told H p d w (Some e) w' = Meets H p d w (stepped e Part-as-Went) w' × View.Ready e w'
+Told H p d w None w' = w' ≡ w
 
-pub record Quickly (H : St.State → Type 0) (p : Program) (d : Depths) (w : List ℕ) (q : Quick) (w' : List ℕ) : Type 0 where
+pub record Quickly (H : St.State → Type 0) (p : Program) (d : Depths) (w : List ℕ) (q : Option Depths) (w' : List ℕ) : Type 0 where
   pub told : Told H p d w q w'
 
 -- and of a step: the program is the one for the state that stands
-abbrev pub StepTold : (St.State → Type 0) → Depths → List ℕ → Quick → List ℕ → Type 0
-StepTold H d w (Went e) w' = ((s : St.State) → H s → out (R.body (R.kind_of (View.on_stacks d w s))) (View.on_stacks d w s) ≡ went (View.on_stacks e w' s)) × View.Ready e w'
-StepTold H d w Left w' = w' ≡ w
+abbrev pub StepTold : (St.State → Type 0) → Depths → List ℕ → Option Depths → List ℕ → Type 0
+StepTold H d w (Some e) w' = ((s : St.State) → H s → out (R.body (R.kind_of (View.on_stacks d w s))) (View.on_stacks d w s) ≡ went (View.on_stacks e w' s)) × View.Ready e w'
+StepTold H d w None w' = w' ≡ w
 
-pub record QuickStep (H : St.State → Type 0) (d : Depths) (w : List ℕ) (q : Quick) (w' : List ℕ) : Type 0 where
+pub record QuickStep (H : St.State → Type 0) (d : Depths) (w : List ℕ) (q : Option Depths) (w' : List ℕ) : Type 0 where
   pub told : StepTold H d w q w'
 
 -- nothing is done
-pub leaves : {H : St.State → Type 0} {p : Program} {d : Depths} {w : List ℕ} → Quickly H p d w Left w
+pub leaves : {H : St.State → Type 0} {p : Program} {d : Depths} {w : List ℕ} → Quickly H p d w None w
 leaves = record { told = refl }
 
 -- an act on the stacks is the last thing that is done, or stops the instruction
-abbrev pub quick_of : Made → Quick
-quick_of (Made-as-Went e) = Went e
-quick_of (Made-as-Failed e) = Left
-quick_of (Made-as-Refused q) = Left
+abbrev pub quick_of : Result Depths Stop → (Option Depths)
+quick_of (Ok e) = Some e
+quick_of (Err (Failed e)) = None
+quick_of (Err (Refused q)) = None
 
-made_told : (H : St.State → Type 0) {a : A.Act} {d : Depths} {w w' : List ℕ} (r : Made) → View.Makes a d w r w' → Told H (make a next) d w (quick_of r) w'
-made_told H (Made-as-Went e) m = (settles m refl, m.ready)
-made_told H (Made-as-Failed e) m = m.ready
-made_told H (Made-as-Refused q) m = m.ready
+pub ok_is : (r : Result Depths Stop) {e : Depths} → result_ok r ≡ Some e → r ≡ Ok e
+ok_is (Ok e) h = cc
+ok_is (Err e) h = cc
 
-pub by_made : {H : St.State → Type 0} {a : A.Act} {d : Depths} {w w' : List ℕ} {r : Made} {q : Quick} → View.Makes a d w r w' → q ≡ quick_of r → Quickly H (make a next) d w q w'
-by_made {H} {a} {d} {w} {w'} {r} {q} m e = subst (λ (y : Quick). Quickly H (make a next) d w y w') (sym e) (record { told = made_told H r m })
+made_told : (H : St.State → Type 0) {a : A.Act} {d : Depths} {w w' : List ℕ} (r : Result Depths Stop) → View.Makes a d w r w' → Told H (make a next) d w (quick_of r) w'
+made_told H (Ok e) m = (settles m refl, m.ready)
+made_told H (Err (Failed e)) m = m.ready
+made_told H (Err (Refused q)) m = m.ready
 
-pub goes : {H : St.State → Type 0} {p : Program} {d e : Depths} {w w' : List ℕ} → Meets H p d w (stepped e Part-as-Went) w' → View.Ready e w' → Quickly H p d w (Went e) w'
+pub by_made : {H : St.State → Type 0} {a : A.Act} {d : Depths} {w w' : List ℕ} {r : Result Depths Stop} {q : Option Depths} → View.Makes a d w r w' → q ≡ quick_of r → Quickly H (make a next) d w q w'
+by_made {H} {a} {d} {w} {w'} {r} {q} m e = subst (λ (y : Option Depths). Quickly H (make a next) d w y w') (sym e) (record { told = made_told H r m })
+
+pub goes : {H : St.State → Type 0} {p : Program} {d e : Depths} {w w' : List ℕ} → Meets H p d w (stepped e Part-as-Went) w' → View.Ready e w' → Quickly H p d w (Some e) w'
 goes m r = record { told = (m, r) }
 
 -- whatever is known of an instruction that goes on as another one
-carry_told : (H K : St.State → Type 0) (p p' : Program) (d e : Depths) (w w' : List ℕ) (q : Quick) → ((y : Stepped) → Meets K p' e w y w' → Meets H p d w y w') → Told K p' e w q w' → Told H p d w q w'
-carry_told H K p p' d e w w' (Went c) f t = (f (stepped c Part-as-Went) t.0, t.1)
-carry_told H K p p' d e w w' Left f t = t
+carry_told : (H K : St.State → Type 0) (p p' : Program) (d e : Depths) (w w' : List ℕ) (q : Option Depths) → ((y : Stepped) → Meets K p' e w y w' → Meets H p d w y w') → Told K p' e w q w' → Told H p d w q w'
+carry_told H K p p' d e w w' (Some c) f t = (f (stepped c Part-as-Went) t.0, t.1)
+carry_told H K p p' d e w w' None f t = t
 
-pub carry : {H K : St.State → Type 0} {p p' : Program} {d e : Depths} {w w' : List ℕ} {q : Quick} → ((y : Stepped) → Meets K p' e w y w' → Meets H p d w y w') → Quickly K p' e w q w' → Quickly H p d w q w'
+pub carry : {H K : St.State → Type 0} {p p' : Program} {d e : Depths} {w w' : List ℕ} {q : Option Depths} → ((y : Stepped) → Meets K p' e w y w' → Meets H p d w y w') → Quickly K p' e w q w' → Quickly H p d w q w'
 carry {H} {K} {p} {p'} {d} {e} {w} {w'} {q} f t = record { told = carry_told H K p p' d e w w' q f t.told }
 
-pub anywhere : {H : St.State → Type 0} {p : Program} {d : Depths} {w w' : List ℕ} {q : Quick} → Quickly Any p d w q w' → Quickly H p d w q w'
+pub anywhere : {H : St.State → Type 0} {p : Program} {d : Depths} {w w' : List ℕ} {q : Option Depths} → Quickly Any p d w q w' → Quickly H p d w q w'
 anywhere t = carry (λ y m. any m) t
 
-pub quick_weaken : {H K : St.State → Type 0} {p : Program} {d : Depths} {w w' : List ℕ} {q : Quick} → ((s : St.State) → K s → H s) → Quickly H p d w q w' → Quickly K p d w q w'
+pub quick_weaken : {H K : St.State → Type 0} {p : Program} {d : Depths} {w w' : List ℕ} {q : Option Depths} → ((s : St.State) → K s → H s) → Quickly H p d w q w' → Quickly K p d w q w'
 quick_weaken f t = carry (λ y m. weaken f m) t
 
 -- The operand of an instruction
 abbrev pub Operand : Running → ℕ → List ℕ → Depths → ℕ → Type 0
-Operand x n code d i = FetchesWord x n code d (Got i (with_ip (d.ip + 2) d))
+Operand x n code d i = FetchesWord x n code d (Some (i, (with_ip (d.ip + 2) d)))
 
 module _ (x : Running) (n : ℕ) (code : List ℕ) (d : Depths) (i : Inside x n code) where
   byte_is : (k : ℕ) → k < x.shape.at + x.shape.size → get_or code k 0 ≡ byte_in code n k
   byte_is k h = sym (row_at_lem n (λ j. get_or code j 0) k 0 (omega (arith, i.loaded)))
 
-  pub first : (b : ℕ) → d.ip < x.shape.size → b ≡ get_or code (x.shape.at + d.ip) 0 → b < 256 → Fetches x n code d (Got b (with_ip (d.ip + 1) d))
+  pub first : (b : ℕ) → d.ip < x.shape.size → b ≡ get_or code (x.shape.at + d.ip) 0 → b < 256 → Fetches x n code d (Some (b, (with_ip (d.ip + 1) d)))
   first b l e h = reads_there x n code d b (with_ip (d.ip + 1) d) l (e ∙ byte_is (x.shape.at + d.ip) (omega (arith, l))) h refl
 
 -- all of it is there
@@ -135,15 +137,15 @@ module _ {d : Depths} {w : List ℕ} (good : View.Ready d w) (h : d.operands ≡
       ∙ out_pop (A.apply (A.push (newest d w)) (View.on_stacks (with_operands (d.operands - 1) d) w s)) k (newest d w) (View.on_stacks (with_operands (d.operands - 1) d) w s).operands refl) refl m
 
 -- the same depths, written otherwise
-pub start_as : {H : St.State → Type 0} {p : Program} {d d' : Depths} {w w' : List ℕ} {q : Quick} → d ≡ d' → Quickly H p d w q w' → Quickly H p d' w q w'
+pub start_as : {H : St.State → Type 0} {p : Program} {d d' : Depths} {w w' : List ℕ} {q : Option Depths} → d ≡ d' → Quickly H p d w q w' → Quickly H p d' w q w'
 start_as {H} {p} {w = w} {w' = w'} {q = q} e t = subst (λ (y : Depths). Quickly H p y w q w') e t
 
-pub went_as : {H : St.State → Type 0} {p : Program} {d e e' : Depths} {w w' : List ℕ} → e ≡ e' → Quickly H p d w (Went e') w' → Quickly H p d w (Went e) w'
-went_as {H} {p} {d} {w = w} {w' = w'} e t = subst (λ (y : Depths). Quickly H p d w (Went y) w') (sym e) t
+pub went_as : {H : St.State → Type 0} {p : Program} {d e e' : Depths} {w w' : List ℕ} → e ≡ e' → Quickly H p d w (Some e') w' → Quickly H p d w (Some e) w'
+went_as {H} {p} {d} {w = w} {w' = w'} e t = subst (λ (y : Depths). Quickly H p d w (Some y) w') (sym e) t
 
 -- v stands on top now
 pub pushes : {d e : Depths} {w w' : List ℕ} {v : M.Value} → View.Ready d w → d.operands < operand_limit → Holds w w' (3 * d.operands) v → length w' ≡ length w → e ≡ with_operands (d.operands + 1) d
-    → Quickly Any (I.pushed v) d w (Went e) w' × Stays d w (Went e) w'
+    → Quickly Any (I.pushed v) d w (Some e) w' × Stays d w (Some e) w'
 pushes {d} {e} {w} {w'} {v} good l h k z =
     let m = push_holds d w good v w' l h k in
     (went_as z (goes (settles m refl) m.ready), stays_went (kept_within z (below_frames h.apart (omega (arith, l)))))
@@ -155,14 +157,14 @@ pub dropped_ready : {d f : Depths} {w : List ℕ} → f ≡ with_operands (d.ope
 dropped_ready {d} {w = w} e r = subst (λ (y : Depths). View.Ready y w) (sym e) (pop_ready d w r)
 
 module _ {d : Depths} {w : List ℕ} (good : View.Ready d w) (h : d.operands ≡ 0 → ⊥) where
-  pub drops : {H : St.State → Type 0} → Quickly H I.Pop d w (Went (with_operands (d.operands - 1) d)) w
+  pub drops : {H : St.State → Type 0} → Quickly H I.Pop d w (Some (with_operands (d.operands - 1) d)) w
   drops = goes (after_any good h (λ v. next) (goes_on refl)) (pop_ready d w good)
 
-  pub after_top : {H : St.State → Type 0} {q : Quick} {w' : List ℕ} → Quickly H (I.pushed (newest d w)) d w q w' → Quickly H I.Dup d w q w'
+  pub after_top : {H : St.State → Type 0} {q : Option Depths} {w' : List ℕ} → Quickly H (I.pushed (newest d w)) d w q w' → Quickly H I.Dup d w q w'
   after_top t = carry (λ y m. after_look (λ s z. ap (λ (u : St.State). I.pushed (I.top u.operands)) (pop_state d w good (newest d w) h refl s)) m) t
 
   -- Return: the value stays where it stands
-  returns_value : {H : St.State → Type 0} {b e f : Depths} → b ≡ with_operands (d.operands - 1) d → View.PopsFrame b w e → f ≡ with_operands d.operands e → Quickly H I.Return d w (Went f) w
+  returns_value : {H : St.State → Type 0} {b e f : Depths} → b ≡ with_operands (d.operands - 1) d → View.PopsFrame b w e → f ≡ with_operands d.operands e → Quickly H I.Return d w (Some f) w
   returns_value {b = b} {e = e} x k i =
       let n : e.operands ≡ d.operands - 1 = same_operands k ∙ ap (λ (y : Depths). y.operands) x in
       let k' : View.PopsFrame (with_operands (d.operands - 1) d) w e = subst (λ (y : Depths). View.PopsFrame y w e) x k in
@@ -179,7 +181,7 @@ module _ {d : Depths} {w : List ℕ} (good : View.Ready d w) (h : d.operands ≡
 
   -- the same, where the newest handler saved no more frames than are left
   pub returns_only : {H : St.State → Type 0} {b e f : Depths} {k : ℕ} → b ≡ with_operands (d.operands - 1) d → k ≡ d.frames - 1 → View.saved_more k (View.handlers_of w d.handlers) ≡ false
-      → View.Cuts b k w e → f ≡ with_operands d.operands e → Quickly H I.Return d w (Went f) w
+      → View.Cuts b k w e → f ≡ with_operands d.operands e → Quickly H I.Return d w (Some f) w
   returns_only {b = b} {e = e} {k = k} x q n c i =
       returns_value x
       (left_handlers b w (dropped_ready x good) k e (q ∙ sym (ap (λ (y : Depths). y.frames - 1) x)) (ap (λ (y : Depths). View.saved_more k (View.handlers_of w y.handlers)) x ∙ n) c) i
@@ -190,7 +192,7 @@ module _ {d : Depths} {w : List ℕ} (good : View.Ready d w) (h : d.operands ≡
     handlers_are : View.handlers_of w d.handlers ≡ View.handler_of k ∷ View.handlers_of w (d.handlers - 1)
     handlers_are = stack_pop (λ i. View.handler_at w (handlers_at + 3 * i)) d.handlers z ∙ ap (λ (y : St.Handler). y ∷ View.handlers_of w (d.handlers - 1)) (sym i)
 
-    pub throws : {H : St.State → Type 0} {r : Made} {f c : Depths} {w' : List ℕ} → View.Makes (A.push (newest d w)) u w r w' → r ≡ Made-as-Went f → c ≡ with_ip k.catch f → Quickly H I.Throw d w (Went c) w'
+    pub throws : {H : St.State → Type 0} {r : Result Depths Stop} {f c : Depths} {w' : List ℕ} → View.Makes (A.push (newest d w)) u w r w' → r ≡ Ok f → c ≡ with_ip k.catch f → Quickly H I.Throw d w (Some c) w'
     throws {f = f} {w' = w'} m g e =
         let un' : View.Unwinds (with_operands (d.operands - 1) d) w u = subst (λ (y : Depths). View.Unwinds y w u) x un in
         goes (after_any good h (λ v. look λ s. I.throw v s.handlers) (after_look (λ s q. ap (I.throw (newest d w)) handlers_are)
@@ -218,14 +220,14 @@ module _ {x : Running} {y : Here} {d : Depths} {w : List ℕ} (good : View.Ready
         (keep_some cut w cut_ready d.frames d.ip d.slots (frame_row fr good) good.frames fr.runs.stands (frame_row_is fr good) (omega (arith, fr.full, fr.count))))
 
     pub throws_here : {w' : List ℕ} {f : Depths} → Holds w w' (3 * m) (newest d w) → length w' ≡ length w → f ≡ within (m + 1) (d.handlers - 1) k.catch d
-        → Quickly Any I.Throw d w (Went f) w' × Stays d w (Went f) w'
+        → Quickly Any I.Throw d w (Some f) w' × Stays d w (Some f) w'
     throws_here {w'} h l g =
         let p = push_holds cut w cut_ready (newest d w) w' (let q = c in omega (arith, e, good.operands, q)) h l in
         (throws good c k refl z i unwinds p refl g, stays_went (kept_within g (below_frames h.apart (omega (arith, e, good.operands)))))
 
   -- a slot that the frame has
   pub stores_local : {n : ℕ} {code : List ℕ} {i : ℕ} {w' : List ℕ} {e f : Depths} → Operand x n code d i → (d.operands ≡ 0 → ⊥) → i < y.count → Holds w w' (y.slots + 3 * i) (newest d w) → length w' ≡ length w
-      → e ≡ with_ip (d.ip + 2) d → f ≡ with_operands (d.operands - 1) e → Quickly (Coded x n code) I.StoreLocal d w (Went f) w' × Stays d w (Went f) w'
+      → e ≡ with_ip (d.ip + 2) d → f ≡ with_operands (d.operands - 1) e → Quickly (Coded x n code) I.StoreLocal d w (Some f) w' × Stays d w (Some f) w'
   stores_local {n} {code} {i} {w'} o c l h k a b =
       let u : Depths = with_operands (d.operands - 1) (with_ip (d.ip + 2) d) in
       let r : View.Ready (with_ip (d.ip + 2) d) w = ready_ip (d.ip + 2) good in
@@ -241,7 +243,7 @@ module _ {x : Running} {y : Here} {d : Depths} {w : List ℕ} (good : View.Ready
       slot_below i l = omega (arith, l, fr.slots, fr.full, good.slots)
 
   pub enters_try : {n : ℕ} {code : List ℕ} {i : ℕ} {w' : List ℕ} {f : Depths} → Operand x n code d i → d.handlers < handler_limit → w' ≡ set3 w (handlers_at + 3 * d.handlers) i d.operands d.frames
-      → f ≡ within d.operands (d.handlers + 1) (d.ip + 2) d → Quickly (Coded x n code) I.EnterTry d w (Went f) w' × Stays d w (Went f) w'
+      → f ≡ within d.operands (d.handlers + 1) (d.ip + 2) d → Quickly (Coded x n code) I.EnterTry d w (Some f) w' × Stays d w (Some f) w'
   enters_try {n} {code} {i} {w'} o l e g =
       let m = handler_went (with_ip (d.ip + 2) d) w (ready_ip (d.ip + 2) good) i w' fr.runs.stands l e in (
         went_as g (carry (λ y m. after_fetch o (λ p. make (A.push_handler p) next) (λ s h. h) fr.runs refl m) (by_made m refl)),
@@ -257,9 +259,9 @@ module _ {H : St.State → Type 0} (x : Running) (n : ℕ) (code : List ℕ) (i 
       ∙ (first x n code d i b l f g).goes w r s (c s h) I.instruction
       ∙ ap (λ (y : Depths). out (I.instruction b) (View.on_stacks y w s)) (sym k)
 
-  step_told : {b : ℕ} {e : Depths} (w' : List ℕ) (q : Quick) → b ≡ get_or code (x.shape.at + d.ip) 0 → b < 256 → e ≡ with_ip (d.ip + 1) d → Told H (I.instruction b) e w q w' → StepTold H d w q w'
-  step_told w' (Went a) f g k t = (λ s h. begun f g k s h ∙ t.0.goes s h, t.1)
-  step_told w' Left f g k t = t
+  step_told : {b : ℕ} {e : Depths} (w' : List ℕ) (q : Option Depths) → b ≡ get_or code (x.shape.at + d.ip) 0 → b < 256 → e ≡ with_ip (d.ip + 1) d → Told H (I.instruction b) e w q w' → StepTold H d w q w'
+  step_told w' (Some a) f g k t = (λ s h. begun f g k s h ∙ t.0.goes s h, t.1)
+  step_told w' None f g k t = t
 
-  pub step_goes : {b : ℕ} {e : Depths} {w' : List ℕ} {q : Quick} → b ≡ get_or code (x.shape.at + d.ip) 0 → b < 256 → e ≡ with_ip (d.ip + 1) d → Quickly H (I.instruction b) e w q w' → QuickStep H d w q w'
+  pub step_goes : {b : ℕ} {e : Depths} {w' : List ℕ} {q : Option Depths} → b ≡ get_or code (x.shape.at + d.ip) 0 → b < 256 → e ≡ with_ip (d.ip + 1) d → Quickly H (I.instruction b) e w q w' → QuickStep H d w q w'
   step_goes {w' = w'} {q = q} f g k t = record { told = step_told w' q f g k t.told }

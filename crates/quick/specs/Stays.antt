@@ -1,5 +1,5 @@
 -- An instruction that stays in its frame: the newest frame's row and its slots are where they were. Assumes nothing.
-use Rattle.std.specs.Prelude.{ℕ, ◌+◌, ◌-◌, ◌*◌, ◌≤◌, ◌<◌, List, ◌≡◌, get_or}
+use Rattle.std.specs.Prelude.{ℕ, ◌+◌, ◌-◌, ◌*◌, ◌≤◌, ◌<◌, List, ◌≡◌, get_or, Option, Some, None}
 use Rattle.std.proofs.Common.{arith, ◌∙◌}
 use Rattle.std.proofs.Math.Path.{refl, sym, ap}
 use Rattle.machine.specs.State as St
@@ -13,10 +13,6 @@ use Rattle.stacks.specs.declared.Frame.{Frame}
 use Rattle.fetch.specs.declared.Running.{Running}
 use Rattle.fetch.specs.Running.{Runs}
 use Rattle.quick.specs.declared.Here.{Here}
-use Rattle.quick.specs.declared.Quick.{Quick}
-use Rattle.quick.specs.declared.Quick.TheVariants.{Went, Left}
-use Rattle.quick.specs.declared.Standing.{Standing}
-use Rattle.quick.specs.declared.Standing.TheVariants.{Is, Other}
 
 -- from the stacks d, w to e, w': as many frames and slots, and every frame's row as it was
 pub record Kept (d : Depths) (w : List ℕ) (e : Depths) (w' : List ℕ) : Type 0 where
@@ -24,14 +20,14 @@ pub record Kept (d : Depths) (w : List ℕ) (e : Depths) (w' : List ℕ) : Type 
   pub slots : e.slots ≡ d.slots
   pub rows : Same w w' frames_at handlers_at
 
-abbrev pub StaysTold : Depths → List ℕ → Quick → List ℕ → Type 0
-StaysTold d w (Went e) w' = Kept d w e w'
-StaysTold d w Left w' = Unit {0}
+abbrev pub StaysTold : Depths → List ℕ → Option Depths → List ℕ → Type 0
+StaysTold d w (Some e) w' = Kept d w e w'
+StaysTold d w None w' = Unit {0}
 
-pub record Stays (d : Depths) (w : List ℕ) (q : Quick) (w' : List ℕ) : Type 0 where
+pub record Stays (d : Depths) (w : List ℕ) (q : Option Depths) (w' : List ℕ) : Type 0 where
   pub told : StaysTold d w q w'
 
-pub stays_left : {d : Depths} {w w' : List ℕ} → Stays d w Left w'
+pub stays_left : {d : Depths} {w w' : List ℕ} → Stays d w None w'
 stays_left = record { told = tt }
 
 pub kept_trans : {d e f : Depths} {w w₁ w' : List ℕ} → Kept d w e w₁ → Kept e w₁ f w' → Kept d w f w'
@@ -50,15 +46,15 @@ kept_ip z = kept_within z (λ j p q. refl)
 pub kept_operands : {n : ℕ} {d e : Depths} {w : List ℕ} → e ≡ with_operands n d → Kept d w e w
 kept_operands z = kept_within z (λ j p q. refl)
 
-stays_told : {d e : Depths} {w w₁ : List ℕ} (w' : List ℕ) (q : Quick) → Kept d w e w₁ → StaysTold e w₁ q w' → StaysTold d w q w'
-stays_told w' (Went f) a t = kept_trans a t
-stays_told w' Left a t = tt
+stays_told : {d e : Depths} {w w₁ : List ℕ} (w' : List ℕ) (q : Option Depths) → Kept d w e w₁ → StaysTold e w₁ q w' → StaysTold d w q w'
+stays_told w' (Some f) a t = kept_trans a t
+stays_told w' None a t = tt
 
 -- what goes on from there, and stays
-pub stays_from : {d e : Depths} {w w₁ w' : List ℕ} {q : Quick} → Kept d w e w₁ → Stays e w₁ q w' → Stays d w q w'
+pub stays_from : {d e : Depths} {w w₁ w' : List ℕ} {q : Option Depths} → Kept d w e w₁ → Stays e w₁ q w' → Stays d w q w'
 stays_from {w' = w'} {q = q} a t = record { told = stays_told w' q a t.told }
 
-pub stays_went : {d e : Depths} {w w' : List ℕ} → Kept d w e w' → Stays d w (Went e) w'
+pub stays_went : {d e : Depths} {w w' : List ℕ} → Kept d w e w' → Stays d w (Some e) w'
 stays_went k = record { told = k }
 
 -- a write below the frames, and one above them
@@ -87,30 +83,30 @@ pub record InFrame (x : Running) (y : Here) (d : Depths) (w : List ℕ) : Type 0
   pub full : base_in d w + y.count ≡ d.slots
   pub last : y.last ≡ x.shape.size - 2
 
-abbrev pub StandsTold : Running → Depths → List ℕ → Standing → Type 0
-StandsTold x d w (Is y) = InFrame x y d w
-StandsTold x d w Other = Unit {0}
+abbrev pub StandsTold : Running → Depths → List ℕ → Option Here → Type 0
+StandsTold x d w (Some y) = InFrame x y d w
+StandsTold x d w None = Unit {0}
 
-pub record Stands (x : Running) (d : Depths) (w : List ℕ) (r : Standing) : Type 0 where
+pub record Stands (x : Running) (d : Depths) (w : List ℕ) (r : Option Here) : Type 0 where
   pub told : StandsTold x d w r
 
 module _ {x : Running} (d : Depths) {w : List ℕ} (f : Frame) (z : d.frames ≡ 0 → ⊥) (e : View.frame_of f ≡ View.frame_at w (row_at d)) where
-  pub stands_here : f.image ≡ x.image → f.template ≡ x.template → f.base ≤ d.slots → f.count ≡ d.slots - f.base → {l : ℕ} → l ≡ x.shape.size - 2
-      → Stands x d w (Is (record { slots = slots_at + 3 * f.base; count = d.slots - f.base; last = l }))
+  pub stands_here : f.image ≡ x.image → f.template ≡ x.template → f.base ≤ d.slots → {n : ℕ} → n ≡ d.slots - f.base → f.count ≡ n → {l : ℕ} → l ≡ x.shape.size - 2
+      → Stands x d w (Some (record { slots = slots_at + 3 * f.base; count = n; last = l }))
   unfolding View.frame_at
-  stands_here i t b c l =
+  stands_here i t b n c l =
       let base : f.base ≡ base_in d w = ap (λ (y : St.Frame). y.base) e in
       record {
         told = record {
           runs = record { stands = z; image = sym (ap (λ (y : St.Frame). y.image) e) ∙ i; template = sym (ap (λ (y : St.Frame). y.template) e) ∙ t };
           slots = ap (λ (n : ℕ). slots_at + 3 * n) base;
           count = sym c ∙ ap (λ (y : St.Frame). y.count) e;
-          full = omega (arith, base, b);
+          full = omega (arith, base, b, n);
           last = l;
         };
       }
 
-pub stood : {x : Running} {y : Here} {d : Depths} {w : List ℕ} {r : Standing} → Stands x d w r → r ≡ Is y → InFrame x y d w
+pub stood : {x : Running} {y : Here} {d : Depths} {w : List ℕ} {r : Option Here} → Stands x d w r → r ≡ Some y → InFrame x y d w
 stood s e = rw e at s.told
 
 -- it stands there after an instruction that stays
@@ -141,7 +137,7 @@ module _ {x : Running} {y : Here} {d : Depths} {w : List ℕ} (f : InFrame x y d
           let b : row_at d + 0 ≡ row_at d = omega arith in
           ap (λ (z : ℕ). get_or w' z 0) (sym a) ∙ word_kept k 0 (omega arith) ∙ ap (λ (z : ℕ). get_or w z 0) b
 
-  pub frame_stays : {e : Depths} {w' : List ℕ} {q : Quick} → Stays d w q w' → q ≡ Went e → InFrame x y e w'
+  pub frame_stays : {e : Depths} {w' : List ℕ} {q : Option Depths} → Stays d w q w' → q ≡ Some e → InFrame x y e w'
   frame_stays s g = frame_kept (rw g at s.told)
 
   -- slot i of the frame

@@ -1,67 +1,45 @@
 //! Jumps, tries, throws and returns.
 ghost use Rattle.std.specs.Prelude.{◌≡◌, ℕ, ◌-◌, List};
-ghost use Rattle.machine.specs.Instruction.{Jump, JumpIfFalse, JumpIfTrue, Return, Throw, EnterTry, LeaveTry};
+ghost use Rattle.machine.specs.Instruction.{Jump, Return, Throw, EnterTry, LeaveTry};
 ghost use Rattle.stacks.specs.View.{Ready};
 ghost use Rattle.outcome.specs.Meets.{Any};
 ghost use Rattle.fetch.specs.Running.{Runs, Coded};
+ghost use Rattle.stackops.specs.Control.{JumpIf};
 ghost use Rattle.quick.specs.Quickly.{Quickly, Operand};
-ghost use Rattle.quick.specs.Stays.{Stays, InFrame, within};
+ghost use Rattle.quick.specs.Stays.{Stays, InFrame};
 ghost use Rattle.quick.specs.Senses.{Senses};
 
-use crate::{Here, Quick};
+use crate::Here;
 use fetch::Running;
 use number::JsNumber;
-use outcome::{with_ip, with_operands};
-use stacks::{Depths, HANDLER_LIMIT, HANDLERS_AT, Made};
+use stacks::{Depths, HANDLER_LIMIT, HANDLERS_AT};
 use value::Value;
 
-fn with_handlers(d: Depths, n: usize, h: usize, p: usize) -> Depths
-    ensures { result ≡ within n h p d }
-{
-    let mut e = d;
-    e.operands = n;
-    e.handlers = h;
-    e.ip = p;
-    e
-}
-
-pub fn jump(x: Running, d: Depths, i: usize, code: &[u8], n: usize) -> Quick
+pub fn jump(x: Running, d: Depths, i: usize, code: &[u8], n: usize) -> Option<Depths>
     requires { Operand x n code.now d i }
     ensures quickly { (w : List ℕ) → Ready d w → Runs x d w → Quickly (Coded x n code.now) Jump d w result w }
     ensures stays { (w : List ℕ) → Stays d w result w }
 {
-    Quick::Went(with_ip(d, i))
+    Some(d.with_ip(i))
 }
 
-// The truth of the newest operand, if it is a boolean or a number.
-#[derive(Clone, Copy)]
-pub enum Sense {
-    Is(bool),
-    Other,
-}
-
-fn truth_of(d: Depths, stacks: &[u64]) -> Sense
+fn truth_of(d: Depths, stacks: &[u64]) -> Option<bool>
     requires { Ready d stacks.now }
     ensures { Senses d stacks.now result }
 {
-    let n = d.operands;
-    if n == 0 {
-        return Sense::Other;
+    let c = d.operands;
+    if c == 0 {
+        return None;
     }
-    let v = value::read(stacks, 3 * (n - 1));
-    match v {
-        Value::Boolean(b) => Sense::Is(b),
-        Value::Number(k) => {
-            if k == JsNumber::JS_ZERO.bits {
-                return Sense::Is(false);
-            }
-            Sense::Is(k != JsNumber::JS_NAN.bits)
-        }
-        _ => Sense::Other,
+    match value::read(stacks, 3 * (c - 1)) {
+        Value::Boolean(b) => Some(b),
+        Value::Number(k) => Some(k != JsNumber::JS_ZERO.bits && k != JsNumber::JS_NAN.bits),
+        _ => None,
     }
 }
 
-pub fn jump_if_false(
+/// JumpIfTrue and JumpIfFalse: a jump where the truth of the operand is `TRUTH`.
+pub fn jump_if<const TRUTH: bool>(
     x: Running,
     y: Here,
     d: Depths,
@@ -69,72 +47,46 @@ pub fn jump_if_false(
     code: &[u8],
     n: usize,
     stacks: &[u64],
-) -> Quick
+) -> Option<Depths>
     requires ready { Ready d stacks.now }
     requires in_frame { InFrame x y d stacks.now }
     requires operand { Operand x n code.now d i }
-    ensures quickly { Quickly (Coded x n code.now) JumpIfFalse d stacks.now result stacks.now }
+    ensures quickly { Quickly (Coded x n code.now) (JumpIf TRUTH) d stacks.now result stacks.now }
     ensures stays { Stays d stacks.now result stacks.now }
 {
-    let e = with_ip(d, d.ip + 2);
-    let Sense::Is(t) = truth_of(e, stacks) else {
-        return Quick::Left;
-    };
-    let f = with_operands(e, e.operands - 1);
-    if t {
-        return Quick::Went(f);
+    let e = d.with_ip(d.ip + 2);
+    let t = truth_of(e, stacks)?;
+    let f = e.with_operands(e.operands - 1);
+    if t == TRUTH {
+        return Some(f.with_ip(i));
     }
-    Quick::Went(with_ip(f, i))
-}
-
-pub fn jump_if_true(
-    x: Running,
-    y: Here,
-    d: Depths,
-    i: usize,
-    code: &[u8],
-    n: usize,
-    stacks: &[u64],
-) -> Quick
-    requires ready { Ready d stacks.now }
-    requires in_frame { InFrame x y d stacks.now }
-    requires operand { Operand x n code.now d i }
-    ensures quickly { Quickly (Coded x n code.now) JumpIfTrue d stacks.now result stacks.now }
-    ensures stays { Stays d stacks.now result stacks.now }
-{
-    let e = with_ip(d, d.ip + 2);
-    let Sense::Is(t) = truth_of(e, stacks) else {
-        return Quick::Left;
-    };
-    let f = with_operands(e, e.operands - 1);
-    if t {
-        return Quick::Went(with_ip(f, i));
-    }
-    Quick::Went(f)
+    Some(f)
 }
 
 // A throw that is caught in the frame that throws.
-pub fn throw(x: Running, y: Here, d: Depths, stacks: &mut [u64]) -> Quick
+pub fn throw(x: Running, y: Here, d: Depths, stacks: &mut [u64]) -> Option<Depths>
     requires ready { Ready d stacks.old }
     requires in_frame { InFrame x y d stacks.old }
     ensures quickly { Quickly Any Throw d stacks.old result stacks.new }
     ensures stays { Stays d stacks.old result stacks.new }
 {
     let c = d.operands;
-    if c == 0 {
-        return Quick::Left;
-    }
     let k = d.handlers;
-    if k == 0 {
-        return Quick::Left;
+    if c == 0 || k == 0 {
+        return None;
     }
     let h = stacks::read_handler(stacks, HANDLERS_AT + 3 * (k - 1));
     if h.frames != d.frames as u64 {
-        return Quick::Left;
+        return None;
     }
-    let m = stacks::lesser(c - 1, h.operands as usize);
+    let m = (c - 1).min(h.operands as usize);
     value::copy(stacks, 3 * m, 3 * (c - 1));
-    Quick::Went(with_handlers(d, m + 1, k - 1, h.catch as usize))
+    Some(Depths {
+        operands: m + 1,
+        handlers: k - 1,
+        ip: h.catch as usize,
+        ..d
+    })
 }
 
 pub fn enter_try(
@@ -145,7 +97,7 @@ pub fn enter_try(
     code: &[u8],
     n: usize,
     stacks: &mut [u64],
-) -> Quick
+) -> Option<Depths>
     requires ready { Ready d stacks.old }
     requires in_frame { InFrame x y d stacks.old }
     requires operand { Operand x n code.now d i }
@@ -154,62 +106,60 @@ pub fn enter_try(
 {
     let h = d.handlers;
     if HANDLER_LIMIT <= h {
-        return Quick::Left;
+        return None;
     }
     let k = HANDLERS_AT + 3 * h;
     stacks[k] = i as u64;
     stacks[k + 1] = d.operands as u64;
     stacks[k + 2] = d.frames as u64;
-    Quick::Went(with_handlers(d, d.operands, h + 1, d.ip + 2))
+    Some(Depths {
+        handlers: h + 1,
+        ip: d.ip + 2,
+        ..d
+    })
 }
 
-pub fn leave_try(d: Depths) -> Quick
+pub fn leave_try(d: Depths) -> Option<Depths>
     ensures quickly { (w : List ℕ) → Ready d w → Quickly Any LeaveTry d w result w }
     ensures stays { (w : List ℕ) → Stays d w result w }
 {
     let h = d.handlers;
     if h == 0 {
-        return Quick::Left;
+        return None;
     }
-    Quick::Went(with_handlers(d, d.operands, h - 1, d.ip))
+    Some(Depths {
+        handlers: h - 1,
+        ..d
+    })
 }
 
 // These two may take frames off. The value that is returned stands where it is to stand. Where a handler goes with the frame, the dispatcher does it: a loop over
 // handlers here, in every step's loop, costs each step some instructions.
-pub fn return_value(d: Depths, stacks: &[u64]) -> Quick
+pub fn return_value(d: Depths, stacks: &[u64]) -> Option<Depths>
     requires { Ready d stacks.now }
     ensures { Quickly Any Return d stacks.now result stacks.now }
 {
     let c = d.operands;
-    if c == 0 {
-        return Quick::Left;
+    let k = d.frames.saturating_sub(1);
+    if c == 0 || stacks::saved_more(d.handlers, k, stacks) {
+        return None;
     }
-    let k = stacks::minus(d.frames, 1);
-    if stacks::saved_more(d.handlers, k, stacks) {
-        return Quick::Left;
-    }
-    let e = stacks::cut_frames(with_operands(d, c - 1), k, stacks);
-    Quick::Went(with_operands(e, c))
+    let e = d.with_operands(c - 1).cut_frames(k, stacks);
+    Some(e.with_operands(c))
 }
 
-pub fn throw_far(d: Depths, stacks: &mut [u64]) -> Quick
+pub fn throw_far(d: Depths, stacks: &mut [u64]) -> Option<Depths>
     requires { Ready d stacks.old }
     ensures { Quickly Any Throw d stacks.old result stacks.new }
 {
     let c = d.operands;
-    if c == 0 {
-        return Quick::Left;
-    }
     let k = d.handlers;
-    if k == 0 {
-        return Quick::Left;
+    if c == 0 || k == 0 {
+        return None;
     }
-    let e = with_operands(d, c - 1);
+    let e = d.with_operands(c - 1);
     let h = stacks::read_handler(stacks, HANDLERS_AT + 3 * (k - 1));
-    let u = stacks::unwind(e, h, stacks);
-    match stacks::push_copy(u, stacks, 3 * (c - 1)) {
-        Made::Went(f) => Quick::Went(with_ip(f, h.catch as usize)),
-        Made::Failed(_) => Quick::Left,
-        Made::Refused(_) => Quick::Left,
-    }
+    let u = e.unwind(h, stacks);
+    let f = u.push_copy(stacks, 3 * (c - 1)).ok()?;
+    Some(f.with_ip(h.catch as usize))
 }

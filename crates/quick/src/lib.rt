@@ -1,12 +1,14 @@
 //! The commonest instructions, where nothing stops them: values moved by their words, two operands that are numbers, jumps, tries and returns.
 //! Each either goes as the machine's program does, or is left whole to `dispatch`.
+//! A step's tests of depths are written out: with `checked_sub` a StoreLocal took three instructions more, and a Throw six.
 #![tactic(auto)]
 
 pub mod control;
 pub mod moves;
 pub mod numbers;
 
-ghost use Rattle.std.specs.Prelude.{◌≡◌, ℕ, ◌+◌, ◌*◌, ◌≤◌, ◌<◌, length, get_or};
+ghost use Rattle.std.specs.Prelude.{◌≡◌, ℕ, ◌+◌, ◌*◌, ◌≤◌, ◌<◌, SomeIff, length, get_or};
+ghost use Rattle.machine.specs.State.{operand_limit};
 ghost use Rattle.machine.specs.Instruction.{instruction, pushed};
 ghost use Rattle.value.specs.Words.{value_of, value_at};
 ghost use Rattle.stacks.specs.Layout.{stack_words};
@@ -17,25 +19,14 @@ ghost use Rattle.quick.specs.Quickly.{quick_of, Quickly, QuickStep, Inside, Oper
 ghost use Rattle.quick.specs.Stays.{Stays, InFrame, Stands};
 
 use fetch::Running;
-use outcome::{with_ip, with_operands};
-use stacks::{Depths, FRAMES_AT, Made, OPERAND_LIMIT, SLOTS_AT};
-use value::Value;
+use stackops::operators::{Add, Div, Gt, GtEq, Lt, LtEq, Mul, Sub};
+use stacks::{Depths, FRAMES_AT, OPERAND_LIMIT, SLOTS_AT};
+use value::{Stop, Value};
 
-// An instruction that went, or one that is left whole: nothing is changed.
-#[derive(Clone, Copy)]
-pub enum Quick {
-    Went(Depths),
-    Left,
-}
-
-pub fn settle(r: Made) -> Quick
+pub fn settle(r: Result<Depths, Stop>) -> Option<Depths>
     ensures { result ≡ quick_of r }
 {
-    match r {
-        Made::Went(e) => Quick::Went(e),
-        Made::Failed(_) => Quick::Left,
-        Made::Refused(_) => Quick::Left,
-    }
+    r.ok()
 }
 
 // Of the newest frame: where its slots stand and how many they are, and the place from which on fewer than three bytes of its code are left.
@@ -46,48 +37,26 @@ pub struct Here {
     pub last: usize,
 }
 
-#[derive(Clone, Copy)]
-pub enum Standing {
-    Is(Here),
-    Other,
-}
-
 // Is the newest frame one of the template x, with its slots on top of the others?
-pub fn stand(x: Running, d: Depths, stacks: &[u64]) -> Standing
+pub fn stand(x: Running, d: Depths, stacks: &[u64]) -> Option<Here>
     requires { Ready d stacks.now }
     ensures { Stands x d stacks.now result }
 {
-    let k = d.frames;
-    if k == 0 {
-        return Standing::Other;
+    let newest = d.frames.checked_sub(1)?;
+    let f = stacks::read_frame(stacks, FRAMES_AT + 5 * newest);
+    if f.image != x.image || f.template != x.template {
+        return None;
     }
-    let f = stacks::read_frame(stacks, FRAMES_AT + 5 * (k - 1));
-    if f.image != x.image {
-        return Standing::Other;
-    }
-    if f.template != x.template {
-        return Standing::Other;
-    }
-    let n = d.slots;
     let base = f.base as usize;
-    if n < base {
-        return Standing::Other;
-    }
-    let count = n - base;
+    let count = d.slots.checked_sub(base)?;
     if f.count as usize != count {
-        return Standing::Other;
+        return None;
     }
-    Standing::Is(Here {
+    Some(Here {
         slots: SLOTS_AT + 3 * base,
         count,
-        last: stacks::minus(x.shape.size, 2),
+        last: x.shape.size.saturating_sub(2),
     })
-}
-
-fn wide(b: u8) -> usize
-    ensures { (result ≡ b) × (result < 256) }
-{
-    b as usize
 }
 
 // The byte at a place of the code.
@@ -95,7 +64,7 @@ pub fn byte_at(code: &[u8], at: usize) -> usize
     requires { at < length code.now }
     ensures { (result ≡ get_or code.now at 0) × (result < 256) }
 {
-    wide(code[at])
+    usize::from(code[at])
 }
 
 // `read_u16`
@@ -108,47 +77,48 @@ pub fn word_at(code: &[u8], at: usize) -> usize
     hi * 256 + lo
 }
 
-pub fn push(d: Depths, stacks: &mut [u64], v: Value) -> Quick
+// Where one operand more is to stand, if there is room.
+fn room(d: Depths) -> Option<usize>
+    ensures { SomeIff result (d.operands < operand_limit) (3 * d.operands) }
+{
+    if OPERAND_LIMIT <= d.operands {
+        return None;
+    }
+    Some(3 * d.operands)
+}
+
+pub fn push(d: Depths, stacks: &mut [u64], v: Value) -> Option<Depths>
     requires { Ready d stacks.old }
     ensures quickly { Quickly Any (pushed (value_of v)) d stacks.old result stacks.new }
     ensures stays { Stays d stacks.old result stacks.new }
 {
-    let n = d.operands;
-    if OPERAND_LIMIT <= n {
-        return Quick::Left;
-    }
-    value::write(stacks, 3 * n, v);
-    Quick::Went(with_operands(d, n + 1))
+    let at = room(d)?;
+    value::write(stacks, at, v);
+    Some(d.with_operands(d.operands + 1))
 }
 
 // The value at place k of the store, pushed.
-pub fn push_copy(d: Depths, stacks: &mut [u64], k: usize) -> Quick
+pub fn push_copy(d: Depths, stacks: &mut [u64], k: usize) -> Option<Depths>
     requires ready { Ready d stacks.old }
     requires k_bound { k + 2 < stack_words }
     ensures quickly { Quickly Any (pushed (value_at stacks.old k)) d stacks.old result stacks.new }
     ensures stays { Stays d stacks.old result stacks.new }
 {
-    let n = d.operands;
-    if OPERAND_LIMIT <= n {
-        return Quick::Left;
-    }
-    value::copy(stacks, 3 * n, k);
-    Quick::Went(with_operands(d, n + 1))
+    let at = room(d)?;
+    value::copy(stacks, at, k);
+    Some(d.with_operands(d.operands + 1))
 }
 
 // The value at place k of another store, pushed.
-pub fn push_from(d: Depths, stacks: &mut [u64], source: &[u64], k: usize) -> Quick
+pub fn push_from(d: Depths, stacks: &mut [u64], source: &[u64], k: usize) -> Option<Depths>
     requires ready { Ready d stacks.old }
     requires k_in_bounds { k + 2 < length source.now }
     ensures quickly { Quickly Any (pushed (value_at source.now k)) d stacks.old result stacks.new }
     ensures stays { Stays d stacks.old result stacks.new }
 {
-    let n = d.operands;
-    if OPERAND_LIMIT <= n {
-        return Quick::Left;
-    }
-    value::bring(stacks, 3 * n, source, k);
-    Quick::Went(with_operands(d, n + 1))
+    let at = room(d)?;
+    value::bring(stacks, at, source, k);
+    Some(d.with_operands(d.operands + 1))
 }
 
 // i is the operand that follows the opcode, if it has one.
@@ -162,7 +132,7 @@ fn execute(
     n: usize,
     places: &[u16],
     stacks: &mut [u64],
-) -> Quick
+) -> Option<Depths>
     requires ready { Ready d stacks.old }
     requires in_frame { InFrame x y d stacks.old }
     requires operand { Operand x n code.now d i }
@@ -173,23 +143,23 @@ fn execute(
         0 => moves::load_const(x, y, d, i, code, n, places, stacks),
         1 => moves::load_local(x, y, d, i, code, n, stacks),
         2 => moves::store_local(x, y, d, i, code, n, stacks),
-        10 => numbers::add(d, stacks),
-        11 => numbers::sub(d, stacks),
-        12 => numbers::mul(d, stacks),
-        13 => numbers::div(d, stacks),
-        34 => numbers::lt(d, stacks),
-        35 => numbers::gt(d, stacks),
-        36 => numbers::lt_eq(d, stacks),
-        37 => numbers::gt_eq(d, stacks),
+        10 => numbers::compute::<Add>(d, stacks),
+        11 => numbers::compute::<Sub>(d, stacks),
+        12 => numbers::compute::<Mul>(d, stacks),
+        13 => numbers::compute::<Div>(d, stacks),
+        34 => numbers::compare::<Lt>(d, stacks),
+        35 => numbers::compare::<Gt>(d, stacks),
+        36 => numbers::compare::<LtEq>(d, stacks),
+        37 => numbers::compare::<GtEq>(d, stacks),
         40 => control::jump(x, d, i, code, n),
-        41 => control::jump_if_false(x, y, d, i, code, n, stacks),
-        42 => control::jump_if_true(x, y, d, i, code, n, stacks),
+        41 => control::jump_if::<false>(x, y, d, i, code, n, stacks),
+        42 => control::jump_if::<true>(x, y, d, i, code, n, stacks),
         74 => control::throw(x, y, d, stacks),
         75 => control::enter_try(x, y, d, i, code, n, stacks),
         76 => control::leave_try(d),
         80 => moves::pop(d),
         81 => moves::dup(d, stacks),
-        _ => Quick::Left,
+        _ => None,
     }
 }
 
@@ -202,7 +172,7 @@ pub fn step(
     n: usize,
     places: &[u16],
     stacks: &mut [u64],
-) -> Quick
+) -> Option<Depths>
     requires ready { Ready d stacks.old }
     requires in_frame { InFrame x y d stacks.old }
     requires inside { Inside x n code.now }
@@ -214,7 +184,7 @@ pub fn step(
         let at = x.shape.at + p;
         let op = byte_at(code, at);
         let i = word_at(code, at + 1);
-        return execute(op, x, y, with_ip(d, p + 1), i, code, n, places, stacks);
+        return execute(op, x, y, d.with_ip(p + 1), i, code, n, places, stacks);
     }
-    Quick::Left
+    None
 }

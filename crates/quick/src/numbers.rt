@@ -1,6 +1,5 @@
 //! Two operands that are numbers. The result stands where the older one stood: its kind is there already.
 ghost use Rattle.std.specs.Prelude.{◌≡◌, ◌+◌, ◌-◌, ◌*◌, ◌≤◌, ◌<◌, length, get_or, set};
-ghost use Rattle.machine.specs.Instruction.{Add, Sub, Mul, Div, Lt, Gt, LtEq, GtEq};
 ghost use Rattle.value.specs.Words.{bit};
 ghost use Rattle.stacks.specs.Laws.{with_operands};
 ghost use Rattle.stacks.specs.View.{Ready};
@@ -8,36 +7,29 @@ ghost use Rattle.outcome.specs.Meets.{Any};
 ghost use Rattle.quick.specs.Quickly.{Quickly};
 ghost use Rattle.quick.specs.Stays.{Stays};
 ghost use Rattle.quick.specs.Numbers.{FindsNumbers};
-ghost use Rattle.quick.specs.declared.Quick.TheVariants.{Went};
 
-use crate::Quick;
 use number::JsNumber;
-use outcome::with_operands;
+use stackops::operators::{Arithmetic, Comparison};
 use stacks::Depths;
 
-// Where the older one of the two newest operands stands, if both are numbers.
-#[derive(Clone, Copy)]
-pub enum BothNumbers {
-    At(usize),
-    Other,
-}
+// The kinds of crate value.
+const BOOLEAN: u64 = 2;
 
-fn find_numbers(d: Depths, stacks: &[u64]) -> BothNumbers
+const NUMBER: u64 = 3;
+
+fn find_numbers(d: Depths, stacks: &[u64]) -> Option<usize>
     requires { Ready d stacks.now }
     ensures { FindsNumbers d stacks.now result }
 {
     let n = d.operands;
     if n < 2 {
-        return BothNumbers::Other;
+        return None;
     }
     let k = 3 * (n - 2);
-    if stacks[k] != 3 {
-        return BothNumbers::Other;
+    if stacks[k] != NUMBER || stacks[k + 3] != NUMBER {
+        return None;
     }
-    if stacks[k + 3] != 3 {
-        return BothNumbers::Other;
-    }
-    BothNumbers::At(k)
+    Some(k)
 }
 
 fn number_at(stacks: &[u64], k: usize) -> JsNumber
@@ -49,131 +41,45 @@ fn number_at(stacks: &[u64], k: usize) -> JsNumber
     }
 }
 
-fn put_number(d: Depths, stacks: &mut [u64], k: usize, v: JsNumber) -> Quick
+fn put_number(d: Depths, stacks: &mut [u64], k: usize, v: JsNumber) -> Depths
     requires { (k + 1 < length stacks.old) × (1 ≤ d.operands) }
-    ensures value { result ≡ Went (with_operands (d.operands - 1) d) }
+    ensures value { result ≡ with_operands (d.operands - 1) d }
     ensures stacks_after { stacks.new ≡ set stacks.old (k + 1) v.bits }
 {
     stacks[k + 1] = v.bits;
-    Quick::Went(with_operands(d, d.operands - 1))
+    d.with_operands(d.operands - 1)
 }
 
-fn bit_of(b: bool) -> u64
-    ensures { result ≡ bit b }
-{
-    if b { 1 } else { 0 }
-}
-
-fn put_bool(d: Depths, stacks: &mut [u64], k: usize, v: bool) -> Quick
+fn put_bool(d: Depths, stacks: &mut [u64], k: usize, v: bool) -> Depths
     requires { (k + 1 < length stacks.old) × (1 ≤ d.operands) }
-    ensures value { result ≡ Went (with_operands (d.operands - 1) d) }
-    ensures stacks_after { stacks.new ≡ set (set stacks.old k 2) (k + 1) (bit v) }
+    ensures value { result ≡ with_operands (d.operands - 1) d }
+    ensures stacks_after { stacks.new ≡ set (set stacks.old k BOOLEAN) (k + 1) (bit v) }
 {
-    stacks[k] = 2;
-    stacks[k + 1] = bit_of(v);
-    Quick::Went(with_operands(d, d.operands - 1))
+    stacks[k] = BOOLEAN;
+    stacks[k + 1] = u64::from(v);
+    d.with_operands(d.operands - 1)
 }
 
-pub fn add(d: Depths, stacks: &mut [u64]) -> Quick
+/// Add of two numbers, Sub, Mul and Div.
+pub fn compute<O: Arithmetic>(d: Depths, stacks: &mut [u64]) -> Option<Depths>
     requires { Ready d stacks.old }
-    ensures quickly { Quickly Any Add d stacks.old result stacks.new }
+    ensures quickly { Quickly Any O.instruction d stacks.old result stacks.new }
     ensures stays { Stays d stacks.old result stacks.new }
 {
-    let BothNumbers::At(k) = find_numbers(d, stacks) else {
-        return Quick::Left;
-    };
+    let k = find_numbers(d, stacks)?;
     let a = number_at(stacks, k);
     let b = number_at(stacks, k + 3);
-    put_number(d, stacks, k, a.add(b))
+    Some(put_number(d, stacks, k, O::apply(a, b)))
 }
 
-pub fn sub(d: Depths, stacks: &mut [u64]) -> Quick
+/// Lt, Gt, LtEq and GtEq.
+pub fn compare<O: Comparison>(d: Depths, stacks: &mut [u64]) -> Option<Depths>
     requires { Ready d stacks.old }
-    ensures quickly { Quickly Any Sub d stacks.old result stacks.new }
+    ensures quickly { Quickly Any O.instruction d stacks.old result stacks.new }
     ensures stays { Stays d stacks.old result stacks.new }
 {
-    let BothNumbers::At(k) = find_numbers(d, stacks) else {
-        return Quick::Left;
-    };
+    let k = find_numbers(d, stacks)?;
     let a = number_at(stacks, k);
     let b = number_at(stacks, k + 3);
-    put_number(d, stacks, k, a.sub(b))
-}
-
-pub fn mul(d: Depths, stacks: &mut [u64]) -> Quick
-    requires { Ready d stacks.old }
-    ensures quickly { Quickly Any Mul d stacks.old result stacks.new }
-    ensures stays { Stays d stacks.old result stacks.new }
-{
-    let BothNumbers::At(k) = find_numbers(d, stacks) else {
-        return Quick::Left;
-    };
-    let a = number_at(stacks, k);
-    let b = number_at(stacks, k + 3);
-    put_number(d, stacks, k, a.mul(b))
-}
-
-pub fn div(d: Depths, stacks: &mut [u64]) -> Quick
-    requires { Ready d stacks.old }
-    ensures quickly { Quickly Any Div d stacks.old result stacks.new }
-    ensures stays { Stays d stacks.old result stacks.new }
-{
-    let BothNumbers::At(k) = find_numbers(d, stacks) else {
-        return Quick::Left;
-    };
-    let a = number_at(stacks, k);
-    let b = number_at(stacks, k + 3);
-    put_number(d, stacks, k, a.div(b))
-}
-
-pub fn lt(d: Depths, stacks: &mut [u64]) -> Quick
-    requires { Ready d stacks.old }
-    ensures quickly { Quickly Any Lt d stacks.old result stacks.new }
-    ensures stays { Stays d stacks.old result stacks.new }
-{
-    let BothNumbers::At(k) = find_numbers(d, stacks) else {
-        return Quick::Left;
-    };
-    let a = number_at(stacks, k);
-    let b = number_at(stacks, k + 3);
-    put_bool(d, stacks, k, a.less(b))
-}
-
-pub fn gt(d: Depths, stacks: &mut [u64]) -> Quick
-    requires { Ready d stacks.old }
-    ensures quickly { Quickly Any Gt d stacks.old result stacks.new }
-    ensures stays { Stays d stacks.old result stacks.new }
-{
-    let BothNumbers::At(k) = find_numbers(d, stacks) else {
-        return Quick::Left;
-    };
-    let a = number_at(stacks, k);
-    let b = number_at(stacks, k + 3);
-    put_bool(d, stacks, k, b.less(a))
-}
-
-pub fn lt_eq(d: Depths, stacks: &mut [u64]) -> Quick
-    requires { Ready d stacks.old }
-    ensures quickly { Quickly Any LtEq d stacks.old result stacks.new }
-    ensures stays { Stays d stacks.old result stacks.new }
-{
-    let BothNumbers::At(k) = find_numbers(d, stacks) else {
-        return Quick::Left;
-    };
-    let a = number_at(stacks, k);
-    let b = number_at(stacks, k + 3);
-    put_bool(d, stacks, k, a.less_eq(b))
-}
-
-pub fn gt_eq(d: Depths, stacks: &mut [u64]) -> Quick
-    requires { Ready d stacks.old }
-    ensures quickly { Quickly Any GtEq d stacks.old result stacks.new }
-    ensures stays { Stays d stacks.old result stacks.new }
-{
-    let BothNumbers::At(k) = find_numbers(d, stacks) else {
-        return Quick::Left;
-    };
-    let a = number_at(stacks, k);
-    let b = number_at(stacks, k + 3);
-    put_bool(d, stacks, k, b.less_eq(a))
+    Some(put_bool(d, stacks, k, O::apply(a, b)))
 }

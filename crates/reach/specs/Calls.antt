@@ -1,5 +1,5 @@
 -- Call of a function that is known. Assumes nothing.
-use Rattle.std.specs.Prelude.{◌≡◌, ℕ, ◌+◌, ◌-◌, ◌*◌, ◌<◌, ◌≤◌, List, [], slice_index_or, refl}
+use Rattle.std.specs.Prelude.{◌≡◌, ℕ, ◌+◌, ◌-◌, ◌*◌, ◌<◌, ◌≤◌, List, [], slice_index_or, refl, Option, Some}
 use Rattle.std.proofs.Common.{sym, ap, subst, ◌∙◌}
 use Rattle.std.proofs.Math.ListN.{get_elem?}
 use Rattle.machine.specs.Image as Im
@@ -18,25 +18,21 @@ use Rattle.stacks.specs.View
 use Rattle.stacks.specs.Laws.{with_operands, with_ip, ready_ip}
 use Rattle.heap.specs.View.{function_in, functions_of}
 use Rattle.heap.specs.declared.Sizes.{Sizes}
-use Rattle.heap.specs.declared.Registered.{Registered}
-use Rattle.heap.specs.declared.Registered.TheVariants.{Known}
 use Rattle.outcome.specs.Meets.{Meets, Any, any, after_look}
 use Rattle.outcome.specs.declared.Stepped.{Stepped}
 use Rattle.fetch.specs.declared.Running.{Running}
-use Rattle.fetch.specs.declared.Fetched.TheVariants.{Got}
 use Rattle.fetch.specs.Running.{Runs, Fetches}
 use Rattle.readops.specs.Holds.{Templates, Callable, calling}
 use Rattle.readops.specs.Calls.{calls_function, call_ready}
-use Rattle.quick.specs.declared.Quick.{Quick}
 use Rattle.quick.specs.Quickly.{Quickly, carry}
 
-module _ {rows starts : List ℕ} {images : ℕ} {d : Depths} {w w' : List ℕ} {f : Registered} {y : Stepped} (argc : ℕ) {i t : ℕ} (p : FunctionTemplate) (g : f ≡ Known i t)
+module _ {rows starts : List ℕ} {images : ℕ} {d : Depths} {w w' : List ℕ} {f : Option (ℕ × ℕ)} {y : Stepped} (argc : ℕ) {i t : ℕ} (p : FunctionTemplate) (g : f ≡ Some (i, t))
     (a : (code places : List ℕ) → template_from code places p ≡ slice_index_or (slice_index_or (images_of code places rows starts images) i []) t St.no_template) where
   known : Meets Any (make (A.push_frame i t (View.called w (d.operands + 1) argc p.param_count p.local_count)) next) d w y w'
       → (code places : List ℕ) → Meets (Templates code places rows starts images) (calling (function_in f) (View.arguments w (d.operands + 1) argc)) d w y w'
   known m code places =
       let args = View.arguments w (d.operands + 1) argc in
-      subst (λ (u : Registered). Meets (Templates code places rows starts images) (calling (function_in u) args) d w y w') (sym g)
+      subst (λ (u : Option (ℕ × ℕ)). Meets (Templates code places rows starts images) (calling (function_in u) args) d w y w') (sym g)
       (after_look
       (λ s h. ap (λ (b : List (List Im.Template)). make (A.push_frame i t (I.locals (slice_index_or (slice_index_or b i []) t St.no_template) args)) next) h.held
       ∙ ap (λ (b : Im.Template). make (A.push_frame i t (I.locals b args)) next) (sym (a code places)))
@@ -47,9 +43,9 @@ module _ {d e c : Depths} {w : List ℕ} {argc at : ℕ} (l : argc < d.operands)
   pub frame_ready : View.Ready d w → View.Ready c w × (c.operands + 1 + argc ≤ St.operand_limit)
   frame_ready r = call_ready {e = with_ip (d.ip + 1) d} (ready_ip (d.ip + 1) r) l a (b ∙ ap (with_operands at) f)
 
-  pub function_calls : {x : Running} {n : ℕ} {code places rows starts : List ℕ} {images : ℕ} {z : Sizes} {heap w' : List ℕ} {v : Value} {id i t : ℕ} {k : Registered} {q : Quick} (p : FunctionTemplate)
-      → Fetches x n code d (Got argc (with_ip (d.ip + 1) d)) → Runs x d w → value_of v ≡ value_at w (3 * at) → v ≡ Function id
-      → function_in k ≡ get_elem? (functions_of heap z.functions) id → k ≡ Known i t
+  pub function_calls : {x : Running} {n : ℕ} {code places rows starts : List ℕ} {images : ℕ} {z : Sizes} {heap w' : List ℕ} {v : Value} {id i t : ℕ} {k : Option (ℕ × ℕ)} {q : Option Depths} (p : FunctionTemplate)
+      → Fetches x n code d (Some (argc, (with_ip (d.ip + 1) d))) → Runs x d w → value_of v ≡ value_at w (3 * at) → v ≡ Function id
+      → function_in k ≡ get_elem? (functions_of heap z.functions) id → k ≡ Some (i, t)
       → ((code places : List ℕ) → template_from code places p ≡ slice_index_or (slice_index_or (images_of code places rows starts images) i []) t St.no_template)
       → Quickly Any (make (A.push_frame i t (View.called w (c.operands + 1) argc p.param_count p.local_count)) next) c w q w'
       → Quickly (Callable x n code places rows starts images z heap) I.Call d w q w'

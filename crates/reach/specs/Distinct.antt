@@ -1,5 +1,5 @@
 -- No two rows have one key: then a row that has it is the one that the machine finds. Assumes nothing.
-use Rattle.std.specs.Prelude.{◌≡◌, ℕ, zero, suc, ◌+◌, ◌*◌, ◌<◌, Bool, true, false, List, [], slice_index_or, refl}
+use Rattle.std.specs.Prelude.{◌≡◌, ℕ, zero, suc, ◌+◌, ◌*◌, ◌<◌, Bool, true, false, List, [], slice_index_or, refl, Option, Some}
 use Rattle.std.proofs.Common.{arith, sym, ap, ◌∙◌}
 use Rattle.machine.specs.Basic.{same}
 use Rattle.machine.specs.State as St
@@ -11,8 +11,6 @@ use Rattle.heap.specs.View.{row_at, property_of, global_of}
 use Rattle.heap.specs.Rows.{Finds, found_within}
 use Rattle.heap.specs.Finds.{pair_at, name_at, stores}
 use Rattle.heap.specs.declared.Sizes.{Sizes}
-use Rattle.heap.specs.declared.Found.{Found}
-use Rattle.heap.specs.declared.Found.TheVariants.{At}
 use Rattle.heapops.specs.declared.Counts.{Counts}
 use Rattle.heapops.specs.Turns.{Mem, state_of}
 
@@ -24,17 +22,17 @@ pub record Distinct (z : Sizes) (h : List ℕ) (m : ℕ) (t : List ℕ) : Type 0
   pub names : (n : List ℕ) → Once (name_at (bytes_of t m) h n) z.globals
 
 -- a row that passes the test: the first one, where no two pass
-pub record Locates (t : ℕ → Bool) (n : ℕ) (r : Found) : Type 0 where
-  pub within : (j : ℕ) → r ≡ At j → j < n
+pub record Locates (t : ℕ → Bool) (n : ℕ) (r : Option ℕ) : Type 0 where
+  pub within : (j : ℕ) → r ≡ Some j → j < n
   pub finds : Once t n → Finds t n r
 
-pub located : {t : ℕ → Bool} {n : ℕ} {r : Found} → Finds t n r → Locates t n r
+pub located : {t : ℕ → Bool} {n : ℕ} {r : Option ℕ} → Finds t n r → Locates t n r
 located f = record { within = λ j e. found_within f e; finds = λ u. f }
 
-at_eq : {i j : ℕ} → At i ≡ At j → i ≡ j
+at_eq : {i j : ℕ} → Some i ≡ Some j → i ≡ j
 at_eq e = cc
 
-pub guessed : {t : ℕ → Bool} {n i : ℕ} → i < n → t i ≡ true → Locates t n (At i)
+pub guessed : {t : ℕ → Bool} {n i : ℕ} → i < n → t i ≡ true → Locates t n (Some i)
 guessed {t} {n} {i} l e = record {
   within = λ j q. let z : i ≡ j = at_eq q in omega arith;
   finds = λ u. record { told = (l, e, record { at = λ j k. below u j k (t j) refl }) };

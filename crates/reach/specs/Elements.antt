@@ -1,5 +1,5 @@
 -- Elements of arrays, and properties of objects by a number. Assumes nothing.
-use Rattle.std.specs.Prelude.{◌≡◌, ℕ, zero, suc, ◌+◌, ◌-◌, ◌*◌, ◌/◌, ◌%◌, ◌^◌, ◌<◌, ◌≤◌, Bool, true, false, ◌&&◌, List, [], ◌∷◌, ◌++◌, length, take, drop, ◌==◌, ◌≢◌, nat_lt, slice_index, refl}
+use Rattle.std.specs.Prelude.{◌≡◌, ℕ, zero, suc, ◌+◌, ◌-◌, ◌*◌, ◌/◌, ◌%◌, ◌^◌, ◌<◌, ◌≤◌, Bool, true, false, ◌&&◌, List, [], ◌∷◌, ◌++◌, length, take, drop, ◌==◌, ◌≢◌, nat_lt, slice_index, refl, Option, Some, None, Result, Ok}
 use Rattle.std.proofs.Common.{arith, sym, ap, subst, ◌∙◌, length-append, drop_of_length-le, take_at, drop-cons, le-leb, lt-ltb, ltb-true, ltb-false, eq-eqb, eqb-true}
 use Rattle.std.proofs.Math.Option.{none, some}
 use Rattle.std.proofs.Math.ListN.{get_elem?}
@@ -17,8 +17,6 @@ use Rattle.value.specs.Lists.{bytes_of, row_of, row_length}
 use Rattle.value.specs.Words.{value_of, value_at, decode_of, Holds}
 use Rattle.value.specs.declared.Value.{Value}
 use Rattle.value.specs.declared.Value.TheVariants.{Number, Object}
-use Rattle.convert.specs.declared.Key.{Key}
-use Rattle.convert.specs.declared.Key.TheVariants.{Index, Name}
 use Rattle.texts.specs.Keeps.{text_limit}
 use Rattle.texts.specs.Spans.{part_of, Places}
 use Rattle.texts.specs.Sources.{stores_of, source_bytes}
@@ -33,58 +31,49 @@ use Rattle.heap.specs.View.{Sized, objects_of, kind_in}
 use Rattle.heap.specs.Rows.{Finds}
 use Rattle.heap.specs.Finds.{pair_at, property_at, object_known}
 use Rattle.heap.specs.declared.Sizes.{Sizes}
-use Rattle.heap.specs.declared.Found.{Found}
-use Rattle.heap.specs.declared.Found.TheVariants.{At}
 use Rattle.heap.specs.declared.ObjectType.{ObjectType}
 use Rattle.heap.specs.declared.ObjectType.TheVariants.{Ordinary, Array, NoObject}
 use Rattle.objects.specs.View.{Puts}
-use Rattle.objects.specs.declared.Placed.{Placed}
-use Rattle.objects.specs.declared.Placed.TheVariants.{Went as Placed-as-Went}
 use Rattle.arrays.specs.Sets.{Sets, sets_ordinary, sets_array, array_below}
 use Rattle.outcome.specs.Meets.{Meets, Any, Pairs, settles, pair_both}
-use Rattle.outcome.specs.declared.Pair.TheVariants.{Both as Pair-as-Both}
 use Rattle.readops.specs.Holds.{Objects}
 use Rattle.readops.specs.Lookups.{loads_index}
 use Rattle.heapops.specs.declared.Counts.{Counts}
 use Rattle.heapops.specs.Turns.{mem, Loaded}
 use Rattle.heapops.specs.Stores.{index_stored}
-use Rattle.quick.specs.declared.Quick.TheVariants.{Went}
 use Rattle.quick.specs.Quickly.{Quickly, carry, goes, went_as, newest}
 use Rattle.quick.specs.Stays.{Stays, stays_went, kept_within, kept_operands, below_frames}
-use Rattle.reach.specs.declared.elements.Access.{Access}
-use Rattle.reach.specs.declared.elements.Access.TheVariants.{To, Other}
-use Rattle.reach.specs.declared.elements.Alone.{Alone}
-use Rattle.reach.specs.declared.elements.Alone.TheVariants.{By, Other as Alone-as-Other}
 use Rattle.reach.specs.Distinct.{Distinct, Locates, guessed, located}
 use Rattle.reach.specs.Reaches.{Reaches, Sure, surely, surely_reaches}
 use Rattle.reach.specs.Names.{RowIs, row_pair}
 use Rattle.reach.specs.Values.{as_value, as_value_lem, property_held}
+use Rattle.value.specs.declared.Space.{Space}
 
 -- of a test that fails nothing is told
 pub untold : {A : Type 0} → false ≡ true → A
 untold e = let z : ◌≡◌ {A = ℕ} 0 1 = cc in absurd (omega arith)
 
 -- An object at place k, and a number above it
-abbrev pub AccessTold : List ℕ → ℕ → Access → Type 0
-AccessTold w k (To id v) = (M.object id ≡ value_at w k) × (M.number v ≡ value_at w (k + 3))
-AccessTold w k Other = Unit {0}
+abbrev pub AccessTold : List ℕ → ℕ → Option (ℕ × ℕ) → Type 0
+AccessTold w k (Some (id, v)) = (M.object id ≡ value_at w k) × (M.number v ≡ value_at w (k + 3))
+AccessTold w k None = Unit {0}
 
-pub record Accesses (w : List ℕ) (k : ℕ) (r : Access) : Type 0 where
+pub record Accesses (w : List ℕ) (k : ℕ) (r : Option (ℕ × ℕ)) : Type 0 where
   pub told : AccessTold w k r
 
-pub accessed : (w : List ℕ) (k : ℕ) → slice_index w k ≡ 6 → slice_index w (k + 3) ≡ 3 → Accesses w k (To (slice_index w (k + 1)) (slice_index w (k + 4)))
+pub accessed : (w : List ℕ) (k : ℕ) → slice_index w k ≡ 6 → slice_index w (k + 3) ≡ 3 → Accesses w k (Some ((slice_index w (k + 1)), (slice_index w (k + 4))))
 unfolding value_at decode_of
 accessed w k e f =
     let z : k + 4 ≡ k + 3 + 1 = omega arith in
     record { told = (rw e refl, ap (λ (i : ℕ). M.number (slice_index w i)) z ∙ rw f refl) }
 
 -- The row of a number's text, which a buffer has room for
-pub record FindsElement (t : List ℕ) (m : ℕ) (h : List ℕ) (n o v : ℕ) (r : Found) : Type 0 where
+pub record FindsElement (t : List ℕ) (m : ℕ) (h : List ℕ) (n o v : ℕ) (r : Option ℕ) : Type 0 where
   pub row : Locates (pair_at (bytes_of t m) h o (N.format_js_number v)) n r
   pub short : length (N.format_js_number v) ≤ longest_text
 
 -- searched by what was written of it
-pub element_searched : {t : List ℕ} {m : ℕ} {h : List ℕ} {n o v x k : ℕ} {r : Found} {b b' : List ℕ} → x ≡ v → Formats (N.format_js_number x) b b' k
+pub element_searched : {t : List ℕ} {m : ℕ} {h : List ℕ} {n o v x k : ℕ} {r : Option ℕ} {b b' : List ℕ} → x ≡ v → Formats (N.format_js_number x) b b' k
     → Finds (pair_at (bytes_of t m) h o (part_of b' 0 k)) n r → FindsElement t m h n o v r
 element_searched {t} {m} {h} {n} {o} {v} {x} {k} {r} {b} {b'} e f l =
     let key = N.format_js_number x in
@@ -92,12 +81,12 @@ element_searched {t} {m} {h} {n} {o} {v} {x} {k} {r} {b} {b'} e f l =
     let y : part_of b' 0 k ≡ key = ap (λ (i : ℕ). take i b') z ∙ ap (take k) f.bytes ∙ take_at key (drop k b) k (sym f.count) in
     subst (λ (u : ℕ). FindsElement t m h n o u r) e (record { row = located (subst (λ (a : List ℕ). Finds (pair_at (bytes_of t m) h o a) n r) y l); short = omega (arith, f.count, f.most) })
 
-pub element_guessed : {t : List ℕ} {m : ℕ} {h : List ℕ} {n o v : ℕ} (i : ℕ) → v < 2 ^ 64 → i < n → RowIs t m h (properties_at + 6 * i) o (N.format_js_number v) → FindsElement t m h n o v (At i)
+pub element_guessed : {t : List ℕ} {m : ℕ} {h : List ℕ} {n o v : ℕ} (i : ℕ) → v < 2 ^ 64 → i < n → RowIs t m h (properties_at + 6 * i) o (N.format_js_number v) → FindsElement t m h n o v (Some i)
 element_guessed {v = v} i l k f = record { row = guessed k (row_pair i f); short = text_length v l }
 
 -- guessed or searched, it is this row
-pub element_at : {t : List ℕ} {m : ℕ} {h : List ℕ} {n o v i j : ℕ} {r : Found} → FindsElement t m h n o v r → r ≡ At j → i ≡ j → FindsElement t m h n o v (At i)
-element_at {t} {m} {h} {n} {o} {v} f e q = subst (λ (y : Found). FindsElement t m h n o v y) (e ∙ ap At (sym q)) f
+pub element_at : {t : List ℕ} {m : ℕ} {h : List ℕ} {n o v i j : ℕ} {r : Option ℕ} → FindsElement t m h n o v r → r ≡ Some j → i ≡ j → FindsElement t m h n o v (Some i)
+element_at {t} {m} {h} {n} {o} {v} f e q = subst (λ (y : Option ℕ). FindsElement t m h n o v y) (e ∙ ap Some (sym q)) f
 
 abbrev filled : List ℕ → List ℕ
 filled t = t ++ row_of (longest_text - length t) (λ i. 0)
@@ -111,25 +100,25 @@ spelled v l =
     }
 
 -- both are popped
-access_pair : {e : Depths} {w : List ℕ} {k id v : ℕ} {a : Access} → View.Ready e w → 2 ≤ e.operands → k ≡ 3 * (e.operands - 2) → Accesses w k a → a ≡ To id v
-    → Pairs e w (Pair-as-Both (Object id) (Number v) (with_operands (e.operands - 2) e))
+access_pair : {e : Depths} {w : List ℕ} {k id v : ℕ} {a : Option (ℕ × ℕ)} → View.Ready e w → 2 ≤ e.operands → k ≡ 3 * (e.operands - 2) → Accesses w k a → a ≡ Some (id, v)
+    → Pairs e w (Some ((Object id), (Number v), (with_operands (e.operands - 2) e)))
 access_pair {e} {w} {k} {id} {v} good two place acc is =
     let n = e.operands in
-    let t : AccessTold w k (To id v) = rw is at acc.told in
+    let t : AccessTold w k (Some (id, v)) = rw is at acc.told in
     let y : k + 3 ≡ 3 * (n - 1) = omega arith in
     let z : k ≡ 3 * (n - 1 - 1) = omega arith in
     let q : n - 1 - 1 ≡ n - 2 = omega arith in
     let top = pop_took e w good (Number v) (λ p. omega arith) (t.1 ∙ ap (value_at w) y) in
     let next = pop_took (with_operands (n - 1) e) w (pop_ready e w good) (Object id) (λ p. omega arith) (t.0 ∙ ap (value_at w) z) in
-    subst (λ (i : ℕ). Pairs e w (Pair-as-Both (Object id) (Number v) (with_operands i e))) q (pair_both top refl next refl)
+    subst (λ (i : ℕ). Pairs e w (Some ((Object id), (Number v), (with_operands i e)))) q (pair_both top refl next refl)
 
 lower_ready : {n : ℕ} {d : Depths} {w : List ℕ} → n ≤ d.operands → View.Ready d w → View.Ready (with_operands n d) w
 lower_ready l r = record { operands = omega (arith, r.operands); slots = r.slots; frames = r.frames; handlers = r.handlers; size = r.size }
 
 -- LoadIndex: the value stands where the object stood
-module _ (z : Sizes) {m : ℕ} {text : List ℕ} {heap : List ℕ} {d : Depths} {w w' : List ℕ} {k id v j : ℕ} {a : Access} {r : Found} {e : Depths}
-    (good : View.Ready d w) (two : 2 ≤ d.operands) (place : k ≡ 3 * (d.operands - 2)) (acc : Accesses w k a) (is : a ≡ To id v) (known : id < z.objects)
-    (f : FindsElement text m heap z.properties id v r) (at : r ≡ At j) (h : Holds w w' k (value_at heap (properties_at + 6 * j + 3))) (l : length w' ≡ length w)
+module _ (z : Sizes) {m : ℕ} {text : List ℕ} {heap : List ℕ} {d : Depths} {w w' : List ℕ} {k id v j : ℕ} {a : Option (ℕ × ℕ)} {r : Option ℕ} {e : Depths}
+    (good : View.Ready d w) (two : 2 ≤ d.operands) (place : k ≡ 3 * (d.operands - 2)) (acc : Accesses w k a) (is : a ≡ Some (id, v)) (known : id < z.objects)
+    (f : FindsElement text m heap z.properties id v r) (at : r ≡ Some j) (h : Holds w w' k (value_at heap (properties_at + 6 * j + 3))) (l : length w' ≡ length w)
     (end : e ≡ with_operands (d.operands - 1) d) where
   abbrev found : M.Value
   found = value_at heap (properties_at + 6 * j + 3)
@@ -137,13 +126,13 @@ module _ (z : Sizes) {m : ℕ} {text : List ℕ} {heap : List ℕ} {d : Depths} 
   abbrev below : Depths
   below = with_operands (d.operands - 2) d
 
-  put : Quickly Any (I.pushed found) below w (Went e) w'
+  put : Quickly Any (I.pushed found) below w (Some e) w'
   put =
       let y : d.operands - 2 + 1 ≡ d.operands - 1 = omega arith in
       let q = push_holds below w (lower_ready (omega arith) good) found w' (omega (arith, good.operands)) (subst (λ (i : ℕ). Holds w w' i found) place h) l in
       went_as (end ∙ ap (λ (i : ℕ). with_operands i d) (sym y)) (goes (settles q refl) q.ready)
 
-  loads : (n : ℕ) (code : List ℕ) → n ≤ length code → Quickly (Sure (Distinct z heap m text) (Objects n code m text z heap)) I.LoadIndex d w (Went e) w'
+  loads : (n : ℕ) (code : List ℕ) → n ≤ length code → Quickly (Sure (Distinct z heap m text) (Objects n code m text z heap)) I.LoadIndex d w (Some e) w'
   loads n code long =
       let key = N.format_js_number v in
       surely put
@@ -153,15 +142,15 @@ module _ (z : Sizes) {m : ℕ} {text : List ℕ} {heap : List ℕ} {d : Depths} 
       (subst (λ (u : M.Value). Meets Any (I.pushed u) below w y w') (sym (as_value_lem found)) p)) put)
 
   pub index_loads : (n : ℕ)
-      → ((code : List ℕ) → n ≤ length code → Quickly (Sure (Distinct z heap m text) (Objects n code m text z heap)) I.LoadIndex d w (Went e) w') × Stays d w (Went e) w'
+      → ((code : List ℕ) → n ≤ length code → Quickly (Sure (Distinct z heap m text) (Objects n code m text z heap)) I.LoadIndex d w (Some e) w') × Stays d w (Some e) w'
   index_loads n = (loads n, stays_went (kept_within end (below_frames h.apart (omega (arith, good.operands)))))
 
 -- A number whose text is digits, and what an array takes it for
-abbrev pub IndexTold : ℕ → Key → Type 0
-IndexTold v (Index e) = (N.decimal e ≡ N.format_js_number v) × (e < 2 ^ 32)
-IndexTold v Name = Unit {0}
+abbrev pub IndexTold : ℕ → Option ℕ → Type 0
+IndexTold v (Some e) = (N.decimal e ≡ N.format_js_number v) × (e < 2 ^ 32)
+IndexTold v None = Unit {0}
 
-pub record IndexIs (v : ℕ) (r : Key) : Type 0 where
+pub record IndexIs (v : ℕ) (r : Option ℕ) : Type 0 where
   pub told : IndexTold v r
 
 digit_is : (d : ℕ) → d < 10 → N.is_digit (48 + d) ≡ true
@@ -210,7 +199,7 @@ decimal_key n h =
     let d = digits 19 n [] (omega arith) in
     key_of (N.decimal n) n d.some_are (d.same ∙ ap (λ (x : Bool). if x then some n else none) (lt-ltb n (2 ^ 64) h))
 
-pub whole_index : (v : ℕ) → v < 2 ^ 63 → v % 2 ^ 32 ≡ 0 → IndexIs v (Index (v / 2 ^ 32))
+pub whole_index : (v : ℕ) → v < 2 ^ 63 → v % 2 ^ 32 ≡ 0 → IndexIs v (Some (v / 2 ^ 32))
 whole_index v h e = record { told = (sym (whole_text v h e), omega arith) }
 
 -- the digits of n: those from place i of s on stand there, and those of m are to come
@@ -251,10 +240,10 @@ same_self : (l : List ℕ) → same l l ≡ true
 same_self [] = refl
 same_self (x ∷ xs) = ap (λ (b : Bool). b && same xs xs) (eq-eqb x x refl) ∙ same_self xs
 
-pub digits_row : {t : List ℕ} {m : ℕ} {h : List ℕ} {k o v n : ℕ} {p : Part} {y : Key} → IndexIs v y → y ≡ Index n → slice_index h k ≡ o → Places (slice_index h (k + 1)) (slice_index h (k + 2)) m p
+pub digits_row : {t : List ℕ} {m : ℕ} {h : List ℕ} {k o v n : ℕ} {p : Part} {y : Option ℕ} → IndexIs v y → y ≡ Some n → slice_index h k ≡ o → Places (slice_index h (k + 1)) (slice_index h (k + 2)) m p
     → m ≤ length t → N.decimal n ≡ part_of t p.from p.to → RowIs t m h k o (N.format_js_number v)
 digits_row {t} {m} {h} {k} {o} {v} {n} i a e p l d =
-    let x : IndexTold v (Index n) = rw a at i.told in
+    let x : IndexTold v (Some n) = rw a at i.told in
     let key = N.format_js_number v in
     record { head = e; key = ap (λ (b : List ℕ). same b key) (sym (p.bytes t l) ∙ sym d ∙ x.0) ∙ same_self key }
 
@@ -262,39 +251,39 @@ digits_row {t} {m} {h} {k} {o} {v} {n} i a e p l d =
 pub record Below (t : List ℕ) (m : ℕ) (h : List ℕ) (n o v p : ℕ) : Type 0 where
   pub index : ℕ
   pub key : some index ≡ array_key (N.format_js_number v)
-  pub row : Locates (pair_at (bytes_of t m) h o length_key) n (At p)
+  pub row : Locates (pair_at (bytes_of t m) h o length_key) n (Some p)
   pub below : index < length_floor (value_at h (properties_at + 6 * p + 3))
 
-abbrev pub BelowTold : List ℕ → ℕ → List ℕ → ℕ → ℕ → ℕ → Alone → Type 0
-BelowTold t m h n o v (By p) = Below t m h n o v p
-BelowTold t m h n o v Alone-as-Other = Unit {0}
+abbrev pub BelowTold : List ℕ → ℕ → List ℕ → ℕ → ℕ → ℕ → Option ℕ → Type 0
+BelowTold t m h n o v (Some p) = Below t m h n o v p
+BelowTold t m h n o v None = Unit {0}
 
-pub record IsBelow (t : List ℕ) (m : ℕ) (h : List ℕ) (n o v : ℕ) (r : Alone) : Type 0 where
+pub record IsBelow (t : List ℕ) (m : ℕ) (h : List ℕ) (n o v : ℕ) (r : Option ℕ) : Type 0 where
   pub told : BelowTold t m h n o v r
 
-pub is_below : {t : List ℕ} {m : ℕ} {h : List ℕ} {n o v e p floor : ℕ} {y : Key} {r : Found} (u : Value) → IndexIs v y → y ≡ Index e → Locates (pair_at (bytes_of t m) h o length_key) n r → r ≡ At p
-    → value_of u ≡ value_at h (properties_at + 6 * p + 3) → floor ≡ length_floor (value_of u) → e < floor → IsBelow t m h n o v (By p)
+pub is_below : {t : List ℕ} {m : ℕ} {h : List ℕ} {n o v e p floor : ℕ} {y : Option ℕ} {r : Option ℕ} (u : Value) → IndexIs v y → y ≡ Some e → Locates (pair_at (bytes_of t m) h o length_key) n r → r ≡ Some p
+    → value_of u ≡ value_at h (properties_at + 6 * p + 3) → floor ≡ length_floor (value_of u) → e < floor → IsBelow t m h n o v (Some p)
 is_below {t} {m} {h} {n} {o} {v} {e} {p} u i a l b q f g = record {
   told = record {
     index = e;
-    key = let x : IndexTold v (Index e) = rw a at i.told in decimal_key e (omega (arith, x.1)) ∙ ap array_key x.0;
+    key = let x : IndexTold v (Some e) = rw a at i.told in decimal_key e (omega (arith, x.1)) ∙ ap array_key x.0;
     row = rw b at l;
     below = let z = f ∙ ap length_floor q in omega (arith, z);
   };
 }
 
 -- A store that alters the row of its key alone: into an ordinary object, or below an array's length
-abbrev pub AloneTold : ObjectType → List ℕ → ℕ → List ℕ → ℕ → ℕ → ℕ → Alone → Type 0
-AloneTold NoObject t m h n o v (By p) = ⊥
-AloneTold Ordinary t m h n o v (By p) = Unit {0}
-AloneTold Array t m h n o v (By p) = Below t m h n o v p
-AloneTold k t m h n o v Alone-as-Other = Unit {0}
+abbrev pub AloneTold : ObjectType → List ℕ → ℕ → List ℕ → ℕ → ℕ → ℕ → Option ℕ → Type 0
+AloneTold NoObject t m h n o v (Some p) = ⊥
+AloneTold Ordinary t m h n o v (Some p) = Unit {0}
+AloneTold Array t m h n o v (Some p) = Below t m h n o v p
+AloneTold k t m h n o v None = Unit {0}
 
-pub record PutsAlone (k : ObjectType) (t : List ℕ) (m : ℕ) (h : List ℕ) (n o v : ℕ) (r : Alone) : Type 0 where
+pub record PutsAlone (k : ObjectType) (t : List ℕ) (m : ℕ) (h : List ℕ) (n o v : ℕ) (r : Option ℕ) : Type 0 where
   pub told : AloneTold k t m h n o v r
 
-alone_sets : (kind : ObjectType) (p : ℕ) (z : Sizes) (w : List ℕ) (m : ℕ) (t : List ℕ) (o v : ℕ) (u : M.Value) (x : Placed) (w' t' : List ℕ)
-    → AloneTold kind t m w z.properties o v (By p) → kind_in kind ≡ get_elem? (objects_of w z.objects) o → Distinct z w m t → Sized z w
+alone_sets : (kind : ObjectType) (p : ℕ) (z : Sizes) (w : List ℕ) (m : ℕ) (t : List ℕ) (o v : ℕ) (u : M.Value) (x : Result (Sizes × ℕ) Space) (w' t' : List ℕ)
+    → AloneTold kind t m w z.properties o v (Some p) → kind_in kind ≡ get_elem? (objects_of w z.objects) o → Distinct z w m t → Sized z w
     → Puts (A.put_property o (N.format_js_number v) u) z w m t x w' t' → Sets (M.object o) (N.format_js_number v) u z w m t x w' t'
 alone_sets NoObject p z w m t o v u x w' t' a k D good s = absurd a
 alone_sets Ordinary p z w m t o v u x w' t' a k D good s = sets_ordinary z w m t o (N.format_js_number v) u Ordinary k x w' t' refl good s
@@ -302,33 +291,33 @@ alone_sets Array p z w m t o v u x w' t' a k D good s =
     let key = N.format_js_number v in
     let l = value_at w (properties_at + 6 * p + 3) in
     sets_array z w m t o key u Array k x w' t' refl
-    (array_below z w m t o key u (Index a.index) a.key a.index refl (At p) (a.row.finds (D.pairs o length_key)) p refl (as_value l) (as_value_lem l) (length_floor l)
+    (array_below z w m t o key u (Some a.index) a.key a.index refl (Some p) (a.row.finds (D.pairs o length_key)) p refl (as_value l) (as_value_lem l) (length_floor l)
     (ap length_floor (sym (as_value_lem l))) x w' t' a.below good s)
 
-pub alone_ordinary : {k : ObjectType} {t : List ℕ} {m : ℕ} {h : List ℕ} {n o v p : ℕ} → k ≡ Ordinary → PutsAlone k t m h n o v (By p)
+pub alone_ordinary : {k : ObjectType} {t : List ℕ} {m : ℕ} {h : List ℕ} {n o v p : ℕ} → k ≡ Ordinary → PutsAlone k t m h n o v (Some p)
 alone_ordinary e = rw e (record { told = tt })
 
-alone_array : (t : List ℕ) (m : ℕ) (h : List ℕ) (n o v : ℕ) (r : Alone) → BelowTold t m h n o v r → AloneTold Array t m h n o v r
-alone_array t m h n o v (By p) b = b
-alone_array t m h n o v Alone-as-Other b = tt
+alone_array : (t : List ℕ) (m : ℕ) (h : List ℕ) (n o v : ℕ) (r : Option ℕ) → BelowTold t m h n o v r → AloneTold Array t m h n o v r
+alone_array t m h n o v (Some p) b = b
+alone_array t m h n o v None b = tt
 
-pub alone_below : {k : ObjectType} {t : List ℕ} {m : ℕ} {h : List ℕ} {n o v : ℕ} {r : Alone} → k ≡ Array → IsBelow t m h n o v r → PutsAlone k t m h n o v r
+pub alone_below : {k : ObjectType} {t : List ℕ} {m : ℕ} {h : List ℕ} {n o v : ℕ} {r : Option ℕ} → k ≡ Array → IsBelow t m h n o v r → PutsAlone k t m h n o v r
 alone_below {t = t} {m = m} {h = h} {n = n} {o = o} {v = v} {r = r} e b = rw e (record { told = alone_array t m h n o v r b.told })
 
 -- StoreIndex: the value above the number is brought into the row
-module _ (c : Counts) {w h t h' : List ℕ} {k id v j p : ℕ} {a : Access} {r : Found} {kind : ObjectType} {y : Alone} {e : Depths}
+module _ (c : Counts) {w h t h' : List ℕ} {k id v j p : ℕ} {a : Option (ℕ × ℕ)} {r : Option ℕ} {kind : ObjectType} {y : Option ℕ} {e : Depths}
     (good : View.Ready c.depths w) (sized : Sized c.sizes h) (fits : (c.text ≤ text_limit) × (length t ≡ text_limit)) (three : 3 ≤ c.depths.operands)
-    (place : k ≡ 3 * (c.depths.operands - 3)) (acc : Accesses w k a) (is : a ≡ To id v) (f : FindsElement t c.text h c.sizes.properties id v r) (at : r ≡ At j)
-    (q : kind_in kind ≡ get_elem? (objects_of h c.sizes.objects) id) (alone : PutsAlone kind t c.text h c.sizes.properties id v y) (by : y ≡ By p)
+    (place : k ≡ 3 * (c.depths.operands - 3)) (acc : Accesses w k a) (is : a ≡ Some (id, v)) (f : FindsElement t c.text h c.sizes.properties id v r) (at : r ≡ Some j)
+    (q : kind_in kind ≡ get_elem? (objects_of h c.sizes.objects) id) (alone : PutsAlone kind t c.text h c.sizes.properties id v y) (by : y ≡ Some p)
     (held : Holds h h' (properties_at + 6 * j + 3) (value_at w (k + 6))) (same : length h' ≡ length h) (end : e ≡ with_operands (c.depths.operands - 3) c.depths) where
   abbrev top : M.Value
   top = newest c.depths w
 
-  pair : Pairs (with_operands (c.depths.operands - 1) c.depths) w (Pair-as-Both (Object id) (Number v) (with_operands (c.depths.operands - 3) c.depths))
+  pair : Pairs (with_operands (c.depths.operands - 1) c.depths) w (Some ((Object id), (Number v), (with_operands (c.depths.operands - 3) c.depths)))
   pair =
       let d = c.depths in
       let z : d.operands - 1 - 2 ≡ d.operands - 3 = omega arith in
-      subst (λ (i : ℕ). Pairs (with_operands (d.operands - 1) d) w (Pair-as-Both (Object id) (Number v) (with_operands i d))) z
+      subst (λ (i : ℕ). Pairs (with_operands (d.operands - 1) d) w (Some ((Object id), (Number v), (with_operands i d)))) z
       (access_pair {e = with_operands (d.operands - 1) d} (pop_ready d w good) (omega arith) (omega arith) acc is)
 
   held_top : Holds h h' (properties_at + 6 * j + 3) top
@@ -338,19 +327,19 @@ module _ (c : Counts) {w h t h' : List ℕ} {k id v j p : ℕ} {a : Access} {r :
 
   stored : Distinct c.sizes h c.text t → (code : List ℕ)
       → Sets (M.object id) (source_bytes (stores_of code c.code t c.text) (filled (N.format_js_number v)) (Buffer (length (N.format_js_number v)))) (value_of (as_value top)) c.sizes h c.text t
-      (Placed-as-Went c.sizes c.text) h' t
+      (Ok (c.sizes, c.text)) h' t
   stored D code =
       let key = N.format_js_number v in
-      let told : AloneTold kind t c.text h c.sizes.properties id v (By p) = rw by at alone.told in
-      subst (λ (b : List ℕ). Sets (M.object id) b (value_of (as_value top)) c.sizes h c.text t (Placed-as-Went c.sizes c.text) h' t)
+      let told : AloneTold kind t c.text h c.sizes.properties id v (Some p) = rw by at alone.told in
+      subst (λ (b : List ℕ). Sets (M.object id) b (value_of (as_value top)) c.sizes h c.text t (Ok (c.sizes, c.text)) h' t)
       (sym ((spelled v f.short).bytes (stores_of code c.code t c.text)))
-      (alone_sets kind p c.sizes h c.text t id v (value_of (as_value top)) (Placed-as-Went c.sizes c.text) h' t told q D sized
+      (alone_sets kind p c.sizes h c.text t id v (value_of (as_value top)) (Ok (c.sizes, c.text)) h' t told q D sized
       (property_held c.sizes h c.text t sized fits.0 fits.1 key r top j h' at same id (f.row.finds (D.pairs id key)) held_top))
 
-  stores : (code o : List ℕ) → Distinct c.sizes h c.text t → Reaches (Loaded c.code code) I.StoreIndex c (mem w h t o) (Went e) (mem w h' t o)
+  stores : (code o : List ℕ) → Distinct c.sizes h c.text t → Reaches (Loaded c.code code) I.StoreIndex c (mem w h t o) (Some e) (mem w h' t o)
   stores code o D =
       let d = c.depths in
-      subst (λ (y : Depths). Reaches (Loaded c.code code) I.StoreIndex c (mem w h t o) (Went y) (mem w h' t o)) (sym end)
+      subst (λ (y : Depths). Reaches (Loaded c.code code) I.StoreIndex c (mem w h t o) (Some y) (mem w h' t o)) (sym end)
       (record {
         told = (
           index_stored code (pop_took d w good (as_value top) (λ z. omega arith) (as_value_lem top)) refl pair refl (spelled v f.short) (stored D code) refl o,
@@ -358,6 +347,6 @@ module _ (c : Counts) {w h t h' : List ℕ} {k id v j p : ℕ} {a : Access} {r :
         );
       })
 
-  pub index_stores : ((code o : List ℕ) → c.code ≤ length code → Reaches (Sure (Distinct c.sizes h c.text t) (Loaded c.code code)) I.StoreIndex c (mem w h t o) (Went e) (mem w h' t o))
-      × Stays c.depths w (Went e) w
+  pub index_stores : ((code o : List ℕ) → c.code ≤ length code → Reaches (Sure (Distinct c.sizes h c.text t) (Loaded c.code code)) I.StoreIndex c (mem w h t o) (Some e) (mem w h' t o))
+      × Stays c.depths w (Some e) w
   index_stores = (λ code o _. surely_reaches (subst (λ (y : Depths). View.Ready y w) (sym end) (lower_ready (omega arith) good)) (stores code o), stays_went (kept_operands end))

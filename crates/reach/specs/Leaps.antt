@@ -1,5 +1,5 @@
 -- What an instruction ensures that may leave the frame or make a text. Assumes nothing.
-use Rattle.std.specs.Prelude.{◌≡◌, ℕ, ◌+◌, ◌-◌, ◌*◌, ◌<◌, ◌≤◌, Bool, true, ◌||◌, List, ◌++◌, length, slice_index, refl}
+use Rattle.std.specs.Prelude.{◌≡◌, ℕ, ◌+◌, ◌-◌, ◌*◌, ◌<◌, ◌≤◌, Bool, true, ◌||◌, List, ◌++◌, length, slice_index, refl, Option, Some, None}
 use Rattle.std.proofs.Common.{arith, sym, ap, subst, ◌∙◌}
 use Rattle.machine.specs.Value as M
 use Rattle.machine.specs.State as St
@@ -18,10 +18,7 @@ use Rattle.stacks.specs.View
 use Rattle.stacks.specs.declared.Depths.{Depths}
 use Rattle.texts.specs.Keeps.{text_limit, Keeps, appended, full}
 use Rattle.texts.specs.Sources.{stores_of}
-use Rattle.texts.specs.declared.Kept.{Kept}
-use Rattle.texts.specs.declared.Kept.TheVariants.{Went as Kept-as-Went, Refused as Kept-as-Refused}
 use Rattle.outcome.specs.Meets.{Pairs, joins, pair_both}
-use Rattle.outcome.specs.declared.Pair.TheVariants.{Both}
 use Rattle.fetch.specs.declared.Running.{Running}
 use Rattle.fetch.specs.Running.{Runs}
 use Rattle.readops.specs.Constants.{add_of}
@@ -31,11 +28,7 @@ use Rattle.heapops.specs.Turns.{Mem, mem, below, state_of, with_depths, turned, 
 use Rattle.heapops.specs.Follows.{weaken}
 use Rattle.heapops.specs.Makes.{with_text, text_pushed_lem, joined}
 use Rattle.finish.specs.Parts.{Tables, Ground}
-use Rattle.quick.specs.declared.Quick.{Quick}
-use Rattle.quick.specs.declared.Quick.TheVariants.{Went as Quick-as-Went, Left as Quick-as-Left}
 use Rattle.quick.specs.Quickly.{Inside}
-use Rattle.reach.specs.declared.leaps.Leap.{Leap}
-use Rattle.reach.specs.declared.leaps.Leap.TheVariants.{Went, Left}
 use Rattle.reach.specs.Reaches as Reach
 use Rattle.reach.specs.Reaches.{Reaches}
 
@@ -44,45 +37,45 @@ abbrev pub leapt_to : Depths → ℕ → Counts → Counts
 leapt_to d k c = with_text k (with_depths d c)
 
 -- THE CONTRACT: it went, as the machine's program p does over every state of which H holds; or it is left, and the stores are as they were.
-abbrev pub Told : (St.State → Type 0) → Program → Counts → Mem → Leap → Mem → Type 0
-Told H p c m (Went e k) m' = Turns H p c m (turned (leapt_to e k c) How-as-Went) m' × View.Ready e m'.stacks × (k ≤ text_limit)
-Told H p c m Left m' = m' ≡ m
+abbrev pub Told : (St.State → Type 0) → Program → Counts → Mem → Option (Depths × ℕ) → Mem → Type 0
+Told H p c m (Some (e, k)) m' = Turns H p c m (turned (leapt_to e k c) How-as-Went) m' × View.Ready e m'.stacks × (k ≤ text_limit)
+Told H p c m None m' = m' ≡ m
 
-pub record Leaps (H : St.State → Type 0) (p : Program) (c : Counts) (m : Mem) (r : Leap) (m' : Mem) : Type 0 where
+pub record Leaps (H : St.State → Type 0) (p : Program) (c : Counts) (m : Mem) (r : Option (Depths × ℕ)) (m' : Mem) : Type 0 where
   pub told : Told H p c m r m'
 
 -- and of a step: the program is the one for the state that stands
-abbrev pub StepTold : (St.State → Type 0) → Counts → Mem → Leap → Mem → Type 0
-StepTold H c m (Went e k) m' = ((s : St.State) → H s → out (R.body (R.kind_of (state_of c m s))) (state_of c m s) ≡ went (state_of (leapt_to e k c) m' s)) × View.Ready e m'.stacks × (k ≤ text_limit)
-StepTold H c m Left m' = m' ≡ m
+abbrev pub StepTold : (St.State → Type 0) → Counts → Mem → Option (Depths × ℕ) → Mem → Type 0
+StepTold H c m (Some (e, k)) m' = ((s : St.State) → H s → out (R.body (R.kind_of (state_of c m s))) (state_of c m s) ≡ went (state_of (leapt_to e k c) m' s)) × View.Ready e m'.stacks × (k ≤ text_limit)
+StepTold H c m None m' = m' ≡ m
 
-pub record LeapStep (H : St.State → Type 0) (c : Counts) (m : Mem) (r : Leap) (m' : Mem) : Type 0 where
+pub record LeapStep (H : St.State → Type 0) (c : Counts) (m : Mem) (r : Option (Depths × ℕ)) (m' : Mem) : Type 0 where
   pub told : StepTold H c m r m'
 
 -- with the text as it was
-abbrev pub leap_of : ℕ → Quick → Leap
-leap_of m (Quick-as-Went e) = Went e m
-leap_of m Quick-as-Left = Left
+abbrev pub leap_of : ℕ → Option Depths → (Option (Depths × ℕ))
+leap_of m (Some e) = Some (e, m)
+leap_of m None = None
 
-quick_told : (H : St.State → Type 0) (p : Program) (c : Counts) (m m' : Mem) (q : Quick) → c.text ≤ text_limit → Reach.Told H p c m q m' → Told H p c m (leap_of c.text q) m'
-quick_told H p c m m' (Quick-as-Went e) l t = (t.0, t.1, l)
-quick_told H p c m m' Quick-as-Left l t = t
+quick_told : (H : St.State → Type 0) (p : Program) (c : Counts) (m m' : Mem) (q : Option Depths) → c.text ≤ text_limit → Reach.Told H p c m q m' → Told H p c m (leap_of c.text q) m'
+quick_told H p c m m' (Some e) l t = (t.0, t.1, l)
+quick_told H p c m m' None l t = t
 
-pub leap_lifts : {H : St.State → Type 0} {p : Program} {c : Counts} {m m' : Mem} {q : Quick} {r : Leap} → c.text ≤ text_limit → r ≡ leap_of c.text q → Reaches H p c m q m' → Leaps H p c m r m'
-leap_lifts {H} {p} {c} {m} {m'} {q} l e t = subst (λ (y : Leap). Leaps H p c m y m') (sym e) (record { told = quick_told H p c m m' q l t.told })
+pub leap_lifts : {H : St.State → Type 0} {p : Program} {c : Counts} {m m' : Mem} {q : Option Depths} {r : Option (Depths × ℕ)} → c.text ≤ text_limit → r ≡ leap_of c.text q → Reaches H p c m q m' → Leaps H p c m r m'
+leap_lifts {H} {p} {c} {m} {m'} {q} l e t = subst (λ (y : Option (Depths × ℕ)). Leaps H p c m y m') (sym e) (record { told = quick_told H p c m m' q l t.told })
 
-weaken_told : (H K : St.State → Type 0) (p : Program) (c : Counts) (m m' : Mem) (r : Leap) → ((s : St.State) → H s → K s) → Told K p c m r m' → Told H p c m r m'
-weaken_told H K p c m m' (Went e k) f t = (weaken f t.0, t.1, t.2)
-weaken_told H K p c m m' Left f t = t
+weaken_told : (H K : St.State → Type 0) (p : Program) (c : Counts) (m m' : Mem) (r : Option (Depths × ℕ)) → ((s : St.State) → H s → K s) → Told K p c m r m' → Told H p c m r m'
+weaken_told H K p c m m' (Some (e, k)) f t = (weaken f t.0, t.1, t.2)
+weaken_told H K p c m m' None f t = t
 
-pub join_lifts : {x : Running} {c : Counts} {g : Tables} {p : Program} {m m' : Mem} {r : Leap} → Leaps (Loaded c.code g.code) p c m r m' → Leaps (Ground x c g) p c m r m'
+pub join_lifts : {x : Running} {c : Counts} {g : Tables} {p : Program} {m m' : Mem} {r : Option (Depths × ℕ)} → Leaps (Loaded c.code g.code) p c m r m' → Leaps (Ground x c g) p c m r m'
 join_lifts {x} {c} {g} {p} {m} {m'} {r} t = record { told = weaken_told (Ground x c g) (Loaded c.code g.code) p c m m' r (λ s i. record { code = i.code }) t.told }
 
 -- Texts joined: the result stands where the older operand stood
 module _ (c : Counts) (code : List ℕ) {w t t' : List ℕ} (good : View.Ready c.depths w) (long : length t ≡ text_limit) (two : 2 ≤ c.depths.operands) (a b : Value)
     (ea : value_of a ≡ value_at w (3 * (c.depths.operands - 2))) (eb : value_of b ≡ value_at w (3 * (c.depths.operands - 2) + 3)) {z : Bool} (has : z ≡ is_text (value_of a) || is_text (value_of b)) (yes : z ≡ true)
-    {k : Kept} (keeps : Keeps (to_js_string (stores_of code c.code t c.text) (value_of a) ++ to_js_string (stores_of code c.code t c.text) (value_of b)) c.text t k t') where
-  popped : Pairs c.depths w (Both a b (with_operands (c.depths.operands - 2) c.depths))
+    {k : Option ℕ} (keeps : Keeps (to_js_string (stores_of code c.code t c.text) (value_of a) ++ to_js_string (stores_of code c.code t c.text) (value_of b)) c.text t k t') where
+  popped : Pairs c.depths w (Some (a, b, (with_operands (c.depths.operands - 2) c.depths)))
   popped =
       let d = c.depths in
       let n = d.operands in
@@ -91,7 +84,7 @@ module _ (c : Counts) (code : List ℕ) {w t t' : List ℕ} (good : View.Ready c
       let e : n - 1 - 1 ≡ n - 2 = omega arith in
       let top = pop_took d w good b (λ q. omega (arith, two)) (eb ∙ ap (value_at w) y) in
       let next = pop_took (with_operands (n - 1) d) w (pop_ready d w good) a (λ q. omega (arith, two)) (ea ∙ ap (value_at w) x) in
-      subst (λ (m : ℕ). Pairs d w (Both a b (with_operands m d))) e (pair_both top refl next refl)
+      subst (λ (m : ℕ). Pairs d w (Some (a, b, (with_operands m d)))) e (pair_both top refl next refl)
 
   begun : (s : St.State) → out I.Add (View.on_stacks c.depths w s) ≡ out (joins (value_of a) (value_of b)) (View.on_stacks (with_operands (c.depths.operands - 2) c.depths) w s)
   begun s =
@@ -101,8 +94,8 @@ module _ (c : Counts) (code : List ℕ) {w t t' : List ℕ} (good : View.Ready c
       ∙ ap (λ (u : Bool). out (if u then text else I.pushed (M.number (N.add (to_number (St.bytes s) (value_of a)) (to_number (St.bytes s) (value_of b))))) (View.on_stacks e w s)) (sym has ∙ yes)
       ∙ sym (out_look (View.on_stacks e w s) (λ s. I.keeping (to_js_string (St.bytes s) (value_of a) ++ to_js_string (St.bytes s) (value_of b)) (λ t. I.pushed (M.text t))))
 
-  pub joins_text : {n size : ℕ} {e : Depths} {w' : List ℕ} → k ≡ Kept-as-Went n → size ≡ n - c.text → w' ≡ set_value w (3 * (c.depths.operands - 2)) (MadeText c.text size)
-      → e ≡ with_operands (c.depths.operands - 1) c.depths → (h o : List ℕ) → Leaps (Loaded c.code code) I.Add c (mem w h t o) (Went e n) (mem w' h t' o)
+  pub joins_text : {n size : ℕ} {e : Depths} {w' : List ℕ} → k ≡ Some n → size ≡ n - c.text → w' ≡ set_value w (3 * (c.depths.operands - 2)) (MadeText c.text size)
+      → e ≡ with_operands (c.depths.operands - 1) c.depths → (h o : List ℕ) → Leaps (Loaded c.code code) I.Add c (mem w h t o) (Some (e, n)) (mem w' h t' o)
   joins_text {n} {size} {e} {w'} f l g y h o =
       let d = c.depths in
       let low : Depths = with_operands (d.operands - 2) d in
@@ -111,10 +104,10 @@ module _ (c : Counts) (code : List ℕ) {w t t' : List ℕ} (good : View.Ready c
       let p = text_pushed_lem (with_depths low c) low w f l push refl in
       let turns = joined {c = with_depths low c} (value_of a) (value_of b) long keeps p h o in
       let q : d.operands - 2 + 1 ≡ d.operands - 1 = omega (arith, two) in
-      subst (λ (u : Depths). Leaps (Loaded c.code code) I.Add c (mem w h t o) (Went u n) (mem w' h t' o)) (ap (λ (i : ℕ). with_operands i d) q ∙ sym y)
+      subst (λ (u : Depths). Leaps (Loaded c.code code) I.Add c (mem w h t o) (Some (u, n)) (mem w' h t' o)) (ap (λ (i : ℕ). with_operands i d) q ∙ sym y)
       (record { told = (record { goes = λ s i. begun (below c (mem w h t o) s) ∙ turns.goes s i; kept = tt }, push.ready, (appended keeps f).1) })
 
-  pub join_left : k ≡ Kept-as-Refused → (h o : List ℕ) → Leaps (Loaded c.code code) I.Add c (mem w h t o) Left (mem w h t' o)
+  pub join_left : k ≡ None → (h o : List ℕ) → Leaps (Loaded c.code code) I.Add c (mem w h t o) None (mem w h t' o)
   join_left f h o = record { told = ap (λ (u : List ℕ). mem w h u o) (full keeps f).1 }
 
 abbrev moved : Counts → Counts
@@ -122,12 +115,12 @@ moved c = with_depths (with_ip (c.depths.ip + 1) c.depths) c
 
 -- A step: the opcode is fetched, and its instruction goes or is left
 module _ {x : Running} (c : Counts) (g : Tables) {w : List ℕ} (i : Inside x c.code g.code) (r : Runs x c.depths w) (l : c.depths.ip < x.shape.size) where
-  step_told : {b : ℕ} (h t o : List ℕ) (m' : Mem) (q : Leap) → b ≡ slice_index g.code (x.shape.at + c.depths.ip) → b < 256
+  step_told : {b : ℕ} (h t o : List ℕ) (m' : Mem) (q : Option (Depths × ℕ)) → b ≡ slice_index g.code (x.shape.at + c.depths.ip) → b < 256
       → Told (Ground x (moved c) g) (I.instruction b) (moved c) (mem w h t o) q m' → StepTold (Ground x c g) c (mem w h t o) q m'
-  step_told h t o m' (Went a k) f n j = (λ s u. Reach.begun c g i r l h t o f n s u ∙ j.0.goes s (record { code = u.code; images = u.images; known = u.known }), j.1, j.2)
-  step_told h t o m' Left f n j = j
+  step_told h t o m' (Some (a, k)) f n j = (λ s u. Reach.begun c g i r l h t o f n s u ∙ j.0.goes s (record { code = u.code; images = u.images; known = u.known }), j.1, j.2)
+  step_told h t o m' None f n j = j
 
-  pub leap_goes : {b : ℕ} {h t : List ℕ} {e : Counts} {d : Depths} {m' : Mem} {q : Leap} (o : List ℕ) → b ≡ slice_index g.code (x.shape.at + c.depths.ip) → b < 256
+  pub leap_goes : {b : ℕ} {h t : List ℕ} {e : Counts} {d : Depths} {m' : Mem} {q : Option (Depths × ℕ)} (o : List ℕ) → b ≡ slice_index g.code (x.shape.at + c.depths.ip) → b < 256
       → d ≡ with_ip (c.depths.ip + 1) c.depths → e ≡ with_depths d c → Leaps (Ground x e g) (I.instruction b) e (mem w h t o) q m' → LeapStep (Ground x c g) c (mem w h t o) q m'
   leap_goes {b} {h} {t} {e} {d} {m'} {q} o f k y z j =
       let v : e ≡ moved c = z ∙ ap (λ (u : Depths). with_depths u c) y in

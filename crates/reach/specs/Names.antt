@@ -1,7 +1,7 @@
 -- A name that is a text of the code, and the global or the property that is found by it. Assumes nothing.
-use Rattle.std.specs.Prelude.{◌≡◌, ℕ, ◌+◌, ◌-◌, ◌*◌, ◌<◌, ◌≤◌, true, List, length, ◌≢◌, slice_index, slice_index_or, refl}
+use Rattle.std.specs.Prelude.{◌≡◌, ℕ, ◌+◌, ◌-◌, ◌*◌, ◌<◌, ◌≤◌, true, List, length, ◌≢◌, slice_index, slice_index_or, refl, Option, Some, None, Ok}
 use Rattle.std.proofs.Common.{arith, sym, ap, subst, ◌∙◌}
-use Rattle.std.proofs.Math.Option.{Option, some}
+use Rattle.std.proofs.Math.Option.{Option as Maybe, some}
 use Rattle.std.proofs.Math.ListN.{get_elem?}
 use Rattle.machine.specs.Value as M
 use Rattle.machine.specs.Image as Im
@@ -11,8 +11,6 @@ use Rattle.reader.specs.Constants.{constant_of}
 use Rattle.reader.specs.declared.Constant.{Constant}
 use Rattle.reader.specs.declared.Constant.TheVariants.{Str}
 use Rattle.image.specs.Load.{found_of}
-use Rattle.image.specs.declared.FoundConstant.{FoundConstant}
-use Rattle.image.specs.declared.FoundConstant.TheVariants.{Is as FoundConstant-as-Is}
 use Rattle.value.specs.Lists.{bytes_of, row_of, row_length}
 use Rattle.value.specs.Words.{value_of, value_at, Holds}
 use Rattle.value.specs.declared.Value.{Value}
@@ -25,17 +23,13 @@ use Rattle.texts.specs.declared.Source.TheVariants.{Code}
 use Rattle.stacks.specs.Laws.{with_operands, with_ip, pop_took, ready_ip}
 use Rattle.stacks.specs.View
 use Rattle.stacks.specs.declared.Depths.{Depths}
-use Rattle.stacks.specs.declared.Popped.TheVariants.{Took}
 use Rattle.heap.specs.Layout.{properties_at, globals_at}
 use Rattle.heap.specs.View.{Sized, objects_of, kind_in}
 use Rattle.heap.specs.Rows.{Finds}
 use Rattle.heap.specs.Finds.{text_is, pair_is, named_kept, name_at, pair_at, global_at, property_at, object_known}
 use Rattle.heap.specs.declared.Sizes.{Sizes}
-use Rattle.heap.specs.declared.Found.{Found}
-use Rattle.heap.specs.declared.Found.TheVariants.{At}
 use Rattle.heap.specs.declared.ObjectType.{ObjectType}
 use Rattle.heap.specs.declared.ObjectType.TheVariants.{Ordinary}
-use Rattle.objects.specs.declared.Placed.TheVariants.{Went as Placed-as-Went}
 use Rattle.arrays.specs.Sets.{sets_ordinary}
 use Rattle.outcome.specs.Meets.{Meets, Any, pair_both}
 use Rattle.outcome.specs.declared.Stepped.{Stepped}
@@ -47,20 +41,16 @@ use Rattle.readops.specs.Lookups.{loads_global, loads_property}
 use Rattle.heapops.specs.declared.Counts.{Counts}
 use Rattle.heapops.specs.Turns.{mem}
 use Rattle.heapops.specs.Stores.{global_stored, property_stored}
-use Rattle.quick.specs.declared.Quick.{Quick}
-use Rattle.quick.specs.declared.Quick.TheVariants.{Went}
 use Rattle.quick.specs.Quickly.{Quickly, Operand, carry, newest, dropped_ready}
-use Rattle.reach.specs.declared.names.Name.{Name}
-use Rattle.reach.specs.declared.names.Name.TheVariants.{Is, Other}
 use Rattle.reach.specs.Distinct.{Locates}
 use Rattle.reach.specs.Reaches.{Reaches}
 use Rattle.reach.specs.Values.{as_value, as_value_lem, global_held, property_held}
 
-abbrev pub NameTold : Option Im.Constant → Name → Type 0
-NameTold o (Is at size) = o ≡ some (constant_of (Str at size))
-NameTold o Other = Unit {0}
+abbrev pub NameTold : Maybe Im.Constant → Option (ℕ × ℕ) → Type 0
+NameTold o (Some (at, size)) = o ≡ some (constant_of (Str at size))
+NameTold o None = Unit {0}
 
-pub record Names (o : Option Im.Constant) (r : Name) : Type 0 where
+pub record Names (o : Maybe Im.Constant) (r : Option (ℕ × ℕ)) : Type 0 where
   pub told : NameTold o r
 
 -- a row's head, and its key in m bytes of text
@@ -75,42 +65,42 @@ pub row_name : {t : List ℕ} {m : ℕ} {h key : List ℕ} (i : ℕ) → RowIs t
 row_name {t} {m} {h} {key} i r = sym (named_kept (bytes_of t m) key h (globals_at + 6 * i) true r.head (sym r.key))
 
 -- the same key, written otherwise
-pub pair_as : (t h : List ℕ) (o n : ℕ) {r : Found} {k k' : List ℕ} → k ≡ k' → Locates (pair_at t h o k) n r → Locates (pair_at t h o k') n r
+pub pair_as : (t h : List ℕ) (o n : ℕ) {r : Option ℕ} {k k' : List ℕ} → k ≡ k' → Locates (pair_at t h o k) n r → Locates (pair_at t h o k') n r
 pair_as t h o n {r} e f = subst (λ (x : List ℕ). Locates (pair_at t h o x) n r) e f
 
-pub name_as : (t h : List ℕ) (n : ℕ) {r : Found} {k k' : List ℕ} → k ≡ k' → Locates (name_at t h k) n r → Locates (name_at t h k') n r
+pub name_as : (t h : List ℕ) (n : ℕ) {r : Option ℕ} {k k' : List ℕ} → k ≡ k' → Locates (name_at t h k) n r → Locates (name_at t h k') n r
 name_as t h n {r} e f = subst (λ (x : List ℕ). Locates (name_at t h x) n r) e f
 
-pub name_is : {c : FoundConstant} {o : Option Im.Constant} {k : Constant} {at size : ℕ} → found_of c ≡ o → c ≡ FoundConstant-as-Is k → k ≡ Str at size → Names o (Is at size)
-name_is a z t = record { told = sym a ∙ ap found_of (z ∙ ap (λ (u : Constant). FoundConstant-as-Is u) t) }
+pub name_is : {c : Option Constant} {o : Maybe Im.Constant} {k : Constant} {at size : ℕ} → found_of c ≡ o → c ≡ Some k → k ≡ Str at size → Names o (Some (at, size))
+name_is a z t = record { told = sym a ∙ ap found_of (z ∙ ap (λ (u : Constant). Some u) t) }
 
 -- a text of the code needs no buffer
 abbrev blank : List ℕ
 blank = row_of longest_text (λ i. 0)
 
-spelled : {o : Option Im.Constant} {u : Name} {at size : ℕ} (i : ℕ) → Names o u → u ≡ Is at size → Spells (λ b. I.get_string_constant b i o) (Code at size) blank
+spelled : {o : Maybe Im.Constant} {u : Option (ℕ × ℕ)} {at size : ℕ} (i : ℕ) → Names o u → u ≡ Some (at, size) → Spells (λ b. I.get_string_constant b i o) (Code at size) blank
 spelled {o} {u} {at} {size} i a b =
     let e : o ≡ some (constant_of (Str at size)) = rw b at a.told in
     spells_as (λ m. ap (I.get_string_constant m i) (sym e)) (spells_code i at size blank (row_length longest_text (λ i. 0)))
 
 -- any value is popped
-took : {e : Depths} {w : List ℕ} → View.Ready e w → (e.operands ≢ 0) → View.Pops e w (Took (as_value (newest e w)) (with_operands (e.operands - 1) e))
+took : {e : Depths} {w : List ℕ} → View.Ready e w → (e.operands ≢ 0) → View.Pops e w (Some ((as_value (newest e w)), (with_operands (e.operands - 1) e)))
 took {e} {w} r h = pop_took e w r (as_value (newest e w)) h (as_value_lem (newest e w))
 
 pushed_as : {d : Depths} {w w' : List ℕ} {y : Stepped} (v : M.Value) → Meets Any (I.pushed v) d w y w' → Meets Any (I.pushed (value_of (as_value v))) d w y w'
 pushed_as {d} {w} {w'} {y} v m = subst (λ (u : M.Value). Meets Any (I.pushed u) d w y w') (sym (as_value_lem v)) m
 
 module _ {x : Running} {n : ℕ} {code places : List ℕ} {m : ℕ} {text : List ℕ} {z : Sizes} {heap : List ℕ} {d : Depths} {w : List ℕ} {i : ℕ}
-    (f : Operand x n code d i) (q : Runs x d w) {u : Name} (a : Names (constant_in x code places i) u) {at size : ℕ} (b : u ≡ Is at size)
-    {k : Found} {j : ℕ} (c : k ≡ At j) where
-  pub global_loads : {y : Quick} {w' : List ℕ} → Finds (name_at (bytes_of text m) heap (named code n at size)) z.globals k
+    (f : Operand x n code d i) (q : Runs x d w) {u : Option (ℕ × ℕ)} (a : Names (constant_in x code places i) u) {at size : ℕ} (b : u ≡ Some (at, size))
+    {k : Option ℕ} {j : ℕ} (c : k ≡ Some j) where
+  pub global_loads : {y : Option Depths} {w' : List ℕ} → Finds (name_at (bytes_of text m) heap (named code n at size)) z.globals k
       → Quickly Any (I.pushed (value_at heap (globals_at + 6 * j + 3))) (with_ip (d.ip + 2) d) w y w' → Quickly (Named x n code places m text z heap) I.LoadGlobal d w y w'
   global_loads h t =
       let v = value_at heap (globals_at + 6 * j + 3) in
       carry (λ y p. loads_global f q refl (spelled i a b) refl (as_value v)
       (λ b. global_at (bytes_of text m) heap (named code n at size) z.globals k h b j (as_value v) c (as_value_lem v)) (pushed_as v p)) t
 
-  pub property_loads : {y : Quick} {w' : List ℕ} {id : ℕ} {l : Depths} → View.Pops (with_ip (d.ip + 2) d) w (Took (Object id) l) → id < z.objects → n ≤ length code
+  pub property_loads : {y : Option Depths} {w' : List ℕ} {id : ℕ} {l : Depths} → View.Pops (with_ip (d.ip + 2) d) w (Some ((Object id), l)) → id < z.objects → n ≤ length code
       → Finds (pair_at (bytes_of text m) heap id (named code n at size)) z.properties k
       → Quickly Any (I.pushed (value_at heap (properties_at + 6 * j + 3))) l w y w' → Quickly (Named x n code places m text z heap) I.LoadProperty d w y w'
   property_loads {id = id} o known long h k' =
@@ -121,7 +111,7 @@ module _ {x : Running} {n : ℕ} {code places : List ℕ} {m : ℕ} {text : List
 
 -- an object on top, behind the operand
 pub object_popped : {d e : Depths} {w : List ℕ} {p : ℕ} {v : Value} {id : ℕ} → View.Ready d w → e ≡ with_ip p d → (e.operands ≢ 0) → value_of v ≡ value_at w (3 * (e.operands - 1)) → v ≡ Object id
-    → View.Pops (with_ip p d) w (Took (Object id) (with_operands (d.operands - 1) (with_ip p d)))
+    → View.Pops (with_ip p d) w (Some ((Object id), (with_operands (d.operands - 1) (with_ip p d))))
 object_popped {d} {w = w} {p = p} {id = id} r z n e g =
     pop_took (with_ip p d) w (ready_ip p r) (Object id) (λ q. n (ap (λ (y : Depths). y.operands) z ∙ q)) (ap value_of (sym g) ∙ e ∙ ap (λ (y : Depths). value_at w (3 * (y.operands - 1))) z)
 
@@ -132,21 +122,21 @@ two_dropped {d} {e} {f} {w} {p} r z y =
 
 module _ {x : Running} {c : Counts} {code places w h t h' : List ℕ} {i : ℕ}
     (f : Operand x c.code code c.depths i) (q : Runs x c.depths w) (good : View.Ready c.depths w) (sized : Sized c.sizes h) (short : c.text ≤ text_limit) (long : length t ≡ text_limit)
-    {e : Depths} (g : e ≡ with_ip (c.depths.ip + 2) c.depths) {u : Name} (a : Names (constant_in x code places i) u) {at size : ℕ} (b : u ≡ Is at size)
-    {k : Found} {j : ℕ} (d : k ≡ At j) where
+    {e : Depths} (g : e ≡ with_ip (c.depths.ip + 2) c.depths) {u : Option (ℕ × ℕ)} (a : Names (constant_in x code places i) u) {at size : ℕ} (b : u ≡ Some (at, size))
+    {k : Option ℕ} {j : ℕ} (d : k ≡ Some j) where
   pub global_stores : (e.operands ≢ 0) → length h' ≡ length h → {l : Depths} → Finds (name_at (bytes_of t c.text) h (named code c.code at size)) c.sizes.globals k
       → Holds h h' (globals_at + 6 * j + 3) (newest e w) → l ≡ with_operands (e.operands - 1) e
-      → (o : List ℕ) → Reaches (Constants x c.code code places) I.StoreGlobal c (mem w h t o) (Went l) (mem w h' t o)
+      → (o : List ℕ) → Reaches (Constants x c.code code places) I.StoreGlobal c (mem w h t o) (Some l) (mem w h' t o)
   global_stores stands same {l} s p z o =
       let behind = with_ip (c.depths.ip + 2) c.depths in
       let ready : View.Ready behind w = ready_ip (c.depths.ip + 2) good in
       let top : newest e w ≡ newest behind w = ap (λ (y : Depths). newest y w) g in
       let y : l ≡ with_operands (behind.operands - 1) behind = z ∙ ap (λ (u : Depths). with_operands (u.operands - 1) u) g in
       let p' : Holds h h' (globals_at + 6 * j + 3) (newest behind w) = subst (Holds h h' (globals_at + 6 * j + 3)) top p in
-      subst (λ (y : Depths). Reaches (Constants x c.code code places) I.StoreGlobal c (mem w h t o) (Went y) (mem w h' t o)) (sym y)
+      subst (λ (y : Depths). Reaches (Constants x c.code code places) I.StoreGlobal c (mem w h t o) (Some y) (mem w h' t o)) (sym y)
       (record {
         told = (
-          global_stored places f q refl {p = Placed-as-Went c.sizes c.text} (spelled i a b) (took ready (λ n. stands (ap (λ (u : Depths). u.operands) g ∙ n))) refl
+          global_stored places f q refl {p = Ok (c.sizes, c.text)} (spelled i a b) (took ready (λ n. stands (ap (λ (u : Depths). u.operands) g ∙ n))) refl
               (global_held c.sizes h c.text t sized short long (named code c.code at size) k (newest behind w) j h' d same s p') refl o,
           dropped_ready refl ready,
         );
@@ -156,7 +146,7 @@ module _ {x : Running} {c : Counts} {code places w h t h' : List ℕ} {i : ℕ}
       → kind_in z ≡ get_elem? (objects_of h c.sizes.objects) id → z ≡ Ordinary
       → Finds (pair_at (bytes_of t c.text) h id (named code c.code at size)) c.sizes.properties k
       → Holds h h' (properties_at + 6 * j + 3) (newest e w) → {l : Depths} → l ≡ with_operands (e.operands - 2) e
-      → (o : List ℕ) → Reaches (Constants x c.code code places) I.StoreProperty c (mem w h t o) (Went l) (mem w h' t o)
+      → (o : List ℕ) → Reaches (Constants x c.code code places) I.StoreProperty c (mem w h t o) (Some l) (mem w h' t o)
   property_stores two same {v} {id} {z} is object kind plain s p {l} y o =
       let behind = with_ip (c.depths.ip + 2) c.depths in
       let ready : View.Ready behind w = ready_ip (c.depths.ip + 2) good in
@@ -167,14 +157,14 @@ module _ {x : Running} {c : Counts} {code places w h t h' : List ℕ} {i : ℕ}
       let r : View.Ready below w = dropped_ready refl ready in
       let e₁ : n - 1 - 1 ≡ n - 2 = omega arith in
       let at₁ : 3 * (e.operands - 2) ≡ 3 * (n - 1 - 1) = ap (λ (u : Depths). 3 * (u.operands - 2)) g ∙ ap (λ (u : ℕ). 3 * u) (sym e₁) in
-      let popped : View.Pops below w (Took (Object id) (with_operands (n - 1 - 1) below)) = pop_took below w r (Object id) (λ q. omega (arith, two')) (ap value_of (sym object) ∙ is ∙ ap (value_at w) at₁) in
+      let popped : View.Pops below w (Some ((Object id), (with_operands (n - 1 - 1) below))) = pop_took below w r (Object id) (λ q. omega (arith, two')) (ap value_of (sym object) ∙ is ∙ ap (value_at w) at₁) in
       let l₁ : l ≡ with_operands (n - 1 - 1) below = y ∙ ap (λ (u : Depths). with_operands (u.operands - 2) u) g ∙ ap (λ (u : ℕ). with_operands u behind) (sym e₁) in
       let p' : Holds h h' (properties_at + 6 * j + 3) (newest behind w) = subst (Holds h h' (properties_at + 6 * j + 3)) top p in
-      subst (λ (y : Depths). Reaches (Constants x c.code code places) I.StoreProperty c (mem w h t o) (Went y) (mem w h' t o)) (sym l₁)
+      subst (λ (y : Depths). Reaches (Constants x c.code code places) I.StoreProperty c (mem w h t o) (Some y) (mem w h' t o)) (sym l₁)
       (record {
         told = (
-          property_stored places f q refl {p = Placed-as-Went c.sizes c.text} (spelled i a b) (pair_both (took ready (λ q. omega (arith, two'))) refl popped refl) refl
-              (sets_ordinary c.sizes h c.text t id (named code c.code at size) (value_of (as_value (newest behind w))) z kind (Placed-as-Went c.sizes c.text) h' t plain sized
+          property_stored places f q refl {p = Ok (c.sizes, c.text)} (spelled i a b) (pair_both (took ready (λ q. omega (arith, two'))) refl popped refl) refl
+              (sets_ordinary c.sizes h c.text t id (named code c.code at size) (value_of (as_value (newest behind w))) z kind (Ok (c.sizes, c.text)) h' t plain sized
               (property_held c.sizes h c.text t sized short long (named code c.code at size) k (newest behind w) j h' d same id s p')) refl o,
           popped.ready,
         );

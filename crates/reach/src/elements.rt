@@ -6,7 +6,6 @@ ghost use Rattle.stacks.specs.View.{Ready};
 ghost use Rattle.texts.specs.Keeps.{text_limit};
 ghost use Rattle.heap.specs.Layout.{property_limit, heap_words};
 ghost use Rattle.heap.specs.View.{Sized};
-ghost use Rattle.heap.specs.declared.Found.TheVariants.{At};
 ghost use Rattle.readops.specs.Holds.{Objects};
 ghost use Rattle.heapops.specs.Turns.{mem, Loaded};
 ghost use Rattle.quick.specs.Quickly.{Quickly};
@@ -16,34 +15,25 @@ ghost use Rattle.reach.specs.Reaches.{Reaches, quick_in, Sure};
 ghost use Rattle.reach.specs.Names.{RowIs};
 ghost use Rattle.reach.specs.Elements.{Accesses, FindsElement, IndexIs, IsBelow, PutsAlone};
 
-use crate::Reached;
 use crate::names::find_property;
-use convert::Key;
-use heap::{Found, ObjectType, PROPERTIES_AT};
+use heap::{ObjectType, PROPERTIES_AT};
 use heapops::Counts;
 use number::JsNumber;
 use number::format::LONGEST_TEXT;
-use outcome::with_operands;
+use stacks::Depths;
 use std::num::{wrapping_add_usize, wrapping_sub_usize};
 
-// An object, and the number above it that names a property.
-#[derive(Clone, Copy)]
-pub enum Access {
-    To(u64, u64),
-    Other,
-}
-
-fn access_at(stacks: &[u64], k: usize) -> Access
+fn access_at(stacks: &[u64], k: usize) -> Option<(u64, u64)>
     requires { k + 5 < length stacks.now }
     ensures { Accesses stacks.now k result }
 {
     if stacks[k] != 6 {
-        return Access::Other;
+        return None;
     }
     if stacks[k + 3] != 3 {
-        return Access::Other;
+        return None;
     }
-    Access::To(stacks[k + 1], stacks[k + 4])
+    Some((stacks[k + 1], stacks[k + 4]))
 }
 
 // Of an array made at once, every row less its element's number is the same. It is a guess for the next element, so it may wrap: 16 bits tell all rows apart.
@@ -56,15 +46,15 @@ fn guess_by(row: usize, v: u64) -> usize {
 }
 
 // The number whose digits are all of a number's text, where the number is whole. Of another it is not told, though raw 1 and raw -1 have the text `0`.
-fn index_of(v: u64) -> Key
+fn index_of(v: u64) -> Option<u64>
     ensures { IndexIs v result }
 {
     if v < 0x8000_0000_0000_0000 {
         if v % 0x1_0000_0000 == 0 {
-            return Key::Index(v / 0x1_0000_0000);
+            return Some(v / 0x1_0000_0000);
         }
     }
-    Key::Name
+    None
 }
 
 fn wide(b: u8) -> u64
@@ -100,7 +90,7 @@ fn row_is_element(text: &[u8], m: usize, heap: &[u64], k: usize, id: u64, v: u64
     requires { (m ≤ length text.now) × (k + 5 < length heap.now) }
     ensures { result ≡ true → RowIs text.now m heap.now k id (format_js_number v) }
 {
-    let Key::Index(n) = index_of(v) else {
+    let Some(n) = index_of(v) else {
         return false;
     };
     if heap[k] != id {
@@ -113,7 +103,14 @@ fn row_is_element(text: &[u8], m: usize, heap: &[u64], k: usize, id: u64, v: u64
 }
 
 // The row whose key is a number's text. This and `is_element` are two functions, so that the test of the guess is compiled into the callers.
-fn search_element(text: &[u8], m: usize, heap: &[u64], count: usize, id: u64, v: u64) -> Found
+fn search_element(
+    text: &[u8],
+    m: usize,
+    heap: &[u64],
+    count: usize,
+    id: u64,
+    v: u64,
+) -> Option<usize>
     requires { (m ≤ length text.now) × (count ≤ property_limit) × (length heap.now ≡ heap_words) }
     ensures { FindsElement text.now m heap.now count id v result }
 {
@@ -133,19 +130,12 @@ fn is_element(
     row: usize,
 ) -> bool
     requires { (m ≤ length text.now) × (count ≤ property_limit) × (length heap.now ≡ heap_words) }
-    ensures { result ≡ true → FindsElement text.now m heap.now count id v (At row) }
+    ensures { result ≡ true → FindsElement text.now m heap.now count id v (Some row) }
 {
     if row < count {
         return row_is_element(text, m, heap, PROPERTIES_AT + 6 * row, id, v);
     }
     false
-}
-
-// A store under a number's text that alters one row alone. An array's row of `length` says so: it is looked at each time, so it is kept.
-#[derive(Clone, Copy)]
-pub enum Alone {
-    By(usize),
-    Other,
 }
 
 fn below_length(
@@ -156,20 +146,20 @@ fn below_length(
     id: u64,
     v: u64,
     guess: usize,
-) -> Alone
+) -> Option<usize>
     requires { (m ≤ length text.now) × (count ≤ property_limit) × (length heap.now ≡ heap_words) }
     ensures { IsBelow text.now m heap.now count id v result }
 {
-    let Key::Index(e) = index_of(v) else {
-        return Alone::Other;
+    let Some(e) = index_of(v) else {
+        return None;
     };
-    let Found::At(p) = find_property(text, m, heap, count, id, b"length", guess) else {
-        return Alone::Other;
+    let Some(p) = find_property(text, m, heap, count, id, b"length", guess) else {
+        return None;
     };
     if e < convert::length_floor(value::read(heap, PROPERTIES_AT + 6 * p + 3)) {
-        return Alone::By(p);
+        return Some(p);
     }
-    Alone::Other
+    None
 }
 
 // A store at or above an array's length stretches it, and one into no object does nothing.
@@ -182,19 +172,25 @@ fn puts_alone(
     id: u64,
     v: u64,
     guess: usize,
-) -> Alone
+) -> Option<usize>
     requires { (m ≤ length text.now) × (count ≤ property_limit) × (length heap.now ≡ heap_words) }
     ensures { PutsAlone kind text.now m heap.now count id v result }
 {
     match kind {
-        ObjectType::NoObject => Alone::Other,
-        ObjectType::Ordinary => Alone::By(0),
+        ObjectType::NoObject => None,
+        ObjectType::Ordinary => Some(0),
         ObjectType::Array => below_length(text, m, heap, count, id, v, guess),
     }
 }
 
 // `guess` is what the last one answered, or any other number.
-pub fn load_index(c: Counts, guess: usize, stacks: &mut [u64], heap: &[u64], text: &[u8]) -> Reached
+pub fn load_index(
+    c: Counts,
+    guess: usize,
+    stacks: &mut [u64],
+    heap: &[u64],
+    text: &[u8],
+) -> Option<(Depths, usize)>
     requires ready { Ready c.depths stacks.old }
     requires sized { Sized c.sizes heap.now }
     requires text_le_text_limit { (c.text ≤ text_limit) × (length text.now ≡ text_limit) }
@@ -204,26 +200,26 @@ pub fn load_index(c: Counts, guess: usize, stacks: &mut [u64], heap: &[u64], tex
     let d = c.depths;
     let n = d.operands;
     if n < 2 {
-        return Reached::Left;
+        return None;
     }
     let k = 3 * (n - 2);
-    let Access::To(id, v) = access_at(stacks, k) else {
-        return Reached::Left;
+    let Some((id, v)) = access_at(stacks, k) else {
+        return None;
     };
     if c.sizes.objects as u64 <= id {
-        return Reached::Left;
+        return None;
     }
     let m = c.text;
     let count = c.sizes.properties;
     let mut row = row_by(guess, v);
     if !is_element(text, m, heap, count, id, v, row) {
-        let Found::At(j) = search_element(text, m, heap, count, id, v) else {
-            return Reached::Left;
+        let Some(j) = search_element(text, m, heap, count, id, v) else {
+            return None;
         };
         row = j;
     }
     value::bring(stacks, k, heap, PROPERTIES_AT + 6 * row + 3);
-    Reached::Went(with_operands(d, n - 1), guess_by(row, v))
+    Some((d.with_operands(n - 1), guess_by(row, v)))
 }
 
 // `guess` has the row of `length` too, above its 16 lowest bits. The length is tested first: that an element beyond it has no row takes a search of all rows.
@@ -233,7 +229,7 @@ pub fn store_index(
     stacks: &[u64],
     heap: &mut [u64],
     text: &[u8],
-) -> Reached
+) -> Option<(Depths, usize)>
     requires ready { Ready c.depths stacks.now }
     requires sized { Sized c.sizes heap.old }
     requires text_le_text_limit { (c.text ≤ text_limit) × (length text.now ≡ text_limit) }
@@ -243,25 +239,25 @@ pub fn store_index(
     let d = c.depths;
     let n = d.operands;
     if n < 3 {
-        return Reached::Left;
+        return None;
     }
     let k = 3 * (n - 3);
-    let Access::To(id, v) = access_at(stacks, k) else {
-        return Reached::Left;
+    let Some((id, v)) = access_at(stacks, k) else {
+        return None;
     };
     let m = c.text;
     let count = c.sizes.properties;
     let kind = heap::object_type(c.sizes, heap, id);
-    let Alone::By(p) = puts_alone(kind, text, m, heap, count, id, v, guess >> 16) else {
-        return Reached::Left;
+    let Some(p) = puts_alone(kind, text, m, heap, count, id, v, guess >> 16) else {
+        return None;
     };
     let mut row = row_by(guess, v);
     if !is_element(text, m, heap, count, id, v, row) {
-        let Found::At(j) = search_element(text, m, heap, count, id, v) else {
-            return Reached::Left;
+        let Some(j) = search_element(text, m, heap, count, id, v) else {
+            return None;
         };
         row = j;
     }
     value::bring(heap, PROPERTIES_AT + 6 * row + 3, stacks, k + 6);
-    Reached::Went(with_operands(d, n - 3), guess_by(row, v) | (p << 16))
+    Some((d.with_operands(n - 3), guess_by(row, v) | (p << 16)))
 }

@@ -14,27 +14,18 @@ ghost use Rattle.quick.specs.Quickly.{Quickly, Inside};
 ghost use Rattle.reach.specs.Leaps.{Leaps, LeapStep, leap_of};
 
 use fetch::Running;
-use heap::Registered;
 use heapops::{Counts, with_depths};
-use outcome::{with_ip, with_operands};
-use quick::{Quick, byte_at, control, settle};
-use stacks::{Depths, minus};
-use texts::{Kept, spell};
+use quick::{byte_at, control, settle};
+use stacks::Depths;
+use texts::spell;
 use value::Value;
 
-// An instruction that went, with the depths and the count of text that it left; or one that is left whole.
-#[derive(Clone, Copy)]
-pub enum Leap {
-    Went(Depths, usize),
-    Left,
-}
-
-fn leapt(q: Quick, m: usize) -> Leap
+fn leapt(q: Option<Depths>, m: usize) -> Option<(Depths, usize)>
     ensures { result ≡ leap_of m q }
 {
     match q {
-        Quick::Went(d) => Leap::Went(d, m),
-        Quick::Left => Leap::Left,
+        Some(d) => Some((d, m)),
+        None => None,
     }
 }
 
@@ -63,7 +54,7 @@ fn has_text(a: Value, b: Value) -> bool
 }
 
 // Add where an operand is a text.
-pub fn join(c: Counts, code: &[u8], stacks: &mut [u64], text: &mut [u8]) -> Leap
+pub fn join(c: Counts, code: &[u8], stacks: &mut [u64], text: &mut [u8]) -> Option<(Depths, usize)>
     requires ready { Ready c.depths stacks.old }
     requires code_in_bounds { c.code ≤ length code.now }
     requires text_le_text_limit { (c.text ≤ text_limit) × (length text.old ≡ text_limit) }
@@ -72,20 +63,24 @@ pub fn join(c: Counts, code: &[u8], stacks: &mut [u64], text: &mut [u8]) -> Leap
     let d = c.depths;
     let n = d.operands;
     if n < 2 {
-        return Leap::Left;
+        return None;
     }
     let k = 3 * (n - 2);
     let a = value::read(stacks, k);
     let b = value::read(stacks, k + 3);
     if has_text(a, b) {
         let m = c.text;
-        let Kept::Went(e) = spell::keep_joined(code, c.code, text, m, a, b) else {
-            return Leap::Left;
+        let Some(e) = spell::keep_joined(code, c.code, text, m, a, b) else {
+            return None;
         };
-        value::write(stacks, k, Value::MadeText(m as u64, minus(e, m) as u64));
-        return Leap::Went(with_operands(d, n - 1), e);
+        value::write(
+            stacks,
+            k,
+            Value::MadeText(m as u64, e.saturating_sub(m) as u64),
+        );
+        return Some((d.with_operands(n - 1), e));
     }
-    Leap::Left
+    None
 }
 
 fn call(
@@ -96,7 +91,7 @@ fn call(
     starts: &[u16],
     stacks: &mut [u64],
     heap: &[u64],
-) -> Quick
+) -> Option<Depths>
     requires ready { Ready c.depths stacks.old }
     requires runs { Runs x c.depths stacks.old }
     requires inside { Inside x c.code code.now }
@@ -106,24 +101,24 @@ fn call(
     let d = c.depths;
     let p = d.ip;
     if x.shape.size <= p {
-        return Quick::Left;
+        return None;
     }
-    let e = with_ip(d, p + 1);
+    let e = d.with_ip(p + 1);
     let argc = byte_at(code, x.shape.at + p);
     let n = d.operands;
     if n <= argc {
-        return Quick::Left;
+        return None;
     }
     let k = n - argc - 1;
     let Value::Function(id) = value::read(stacks, 3 * k) else {
-        return Quick::Left;
+        return None;
     };
-    let Registered::Known(i, t) = heap::function(c.sizes, heap, id) else {
-        return Quick::Left;
+    let Some((i, t)) = heap::function(c.sizes, heap, id) else {
+        return None;
     };
     let s = image::template_at(rows, starts, c.images, i as usize, t as usize);
-    let f = with_operands(e, k);
-    settle(stacks::call_frame(f, stacks, i, t, argc, s.param_count, s.local_count))
+    let f = e.with_operands(k);
+    settle(f.call_frame(stacks, i, t, argc, s.param_count, s.local_count))
 }
 
 // x is the template of the newest frame.
@@ -137,7 +132,7 @@ fn execute(
     stacks: &mut [u64],
     heap: &[u64],
     text: &mut [u8],
-) -> Leap
+) -> Option<(Depths, usize)>
     requires ready { Ready c.depths stacks.old }
     requires runs { Runs x c.depths stacks.old }
     requires inside { Inside x c.code code.now }
@@ -150,7 +145,7 @@ fn execute(
         50 => leapt(call(x, c, code, rows, starts, stacks, heap), c.text),
         51 => leapt(control::return_value(c.depths, stacks), c.text),
         74 => leapt(control::throw_far(c.depths, stacks), c.text),
-        _ => Leap::Left,
+        _ => None,
     }
 }
 
@@ -164,7 +159,7 @@ pub fn step(
     stacks: &mut [u64],
     heap: &[u64],
     text: &mut [u8],
-) -> Leap
+) -> Option<(Depths, usize)>
     requires ready { Ready c.depths stacks.old }
     requires runs { Runs x c.depths stacks.old }
     requires inside { Inside x c.code code.now }
@@ -176,8 +171,8 @@ pub fn step(
     let p = d.ip;
     if p < x.shape.size {
         let op = byte_at(code, x.shape.at + p);
-        let e = with_depths(c, with_ip(d, p + 1));
+        let e = with_depths(c, d.with_ip(p + 1));
         return execute(op, x, e, code, rows, starts, stacks, heap, text);
     }
-    Leap::Left
+    None
 }

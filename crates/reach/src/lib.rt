@@ -23,23 +23,15 @@ ghost use Rattle.reach.specs.Reaches.{Reaches, ReachStep, quick_in, Sure};
 
 use fetch::Running;
 use heapops::{Counts, with_depths};
-use outcome::with_ip;
-use quick::{Here, Quick, byte_at, word_at};
+use quick::{Here, byte_at, word_at};
 use stacks::Depths;
 
-// An instruction that went, by what was found in a row: a guess for the next time. Or one that is left whole.
-#[derive(Clone, Copy)]
-pub enum Reached {
-    Went(Depths, usize),
-    Left,
-}
-
-pub fn by_row(q: Quick, row: usize) -> Reached
+pub fn by_row(q: Option<Depths>, row: usize) -> Option<(Depths, usize)>
     ensures { quick_in result ≡ q }
 {
     match q {
-        Quick::Went(d) => Reached::Went(d, row),
-        Quick::Left => Reached::Left,
+        Some(d) => Some((d, row)),
+        None => None,
     }
 }
 
@@ -55,7 +47,7 @@ fn execute(
     stacks: &mut [u64],
     heap: &mut [u64],
     text: &[u8],
-) -> Reached
+) -> Option<(Depths, usize)>
     requires ready { Ready c.depths stacks.old }
     requires runs { Runs x c.depths stacks.old }
     requires operand { Operand x c.code code.now c.depths i }
@@ -72,7 +64,7 @@ fn execute(
         6 => stores::store_property(x, c, i, guess, code, places, stacks, heap, text),
         7 => elements::load_index(c, guess, stacks, heap, text),
         8 => elements::store_index(c, guess, stacks, heap, text),
-        _ => Reached::Left,
+        _ => None,
     }
 }
 
@@ -87,7 +79,7 @@ pub fn step(
     stacks: &mut [u64],
     heap: &mut [u64],
     text: &[u8],
-) -> Reached
+) -> Option<(Depths, usize)>
     requires ready { Ready c.depths stacks.old }
     requires in_frame { InFrame x y c.depths stacks.old }
     requires inside { Inside x c.code code.now }
@@ -102,8 +94,8 @@ pub fn step(
         let at = x.shape.at + p;
         let op = byte_at(code, at);
         let i = word_at(code, at + 1);
-        let e = with_depths(c, with_ip(d, p + 1));
+        let e = with_depths(c, d.with_ip(p + 1));
         return execute(op, x, e, i, guess, code, places, stacks, heap, text);
     }
-    Reached::Left
+    None
 }

@@ -10,13 +10,13 @@ ghost use Rattle.quick.specs.Stays.{Stays};
 ghost use Rattle.reach.specs.Distinct.{Distinct};
 ghost use Rattle.reach.specs.Reaches.{quick_in, Sure};
 
-use crate::names::{Name, global_named, name_at, property_named};
-use crate::{Reached, by_row};
+use crate::by_row;
+use crate::names::{global_named, name_at, property_named};
 use fetch::Running;
-use heap::{Found, GLOBALS_AT, PROPERTIES_AT};
+use heap::{GLOBALS_AT, PROPERTIES_AT};
 use heapops::Counts;
-use outcome::{with_ip, with_operands};
 use quick::push_from;
+use stacks::Depths;
 use value::Value;
 
 // `guess` is a row that may have the name; the row that has it is answered. So it is for every function here.
@@ -30,7 +30,7 @@ pub fn load_global(
     stacks: &mut [u64],
     heap: &[u64],
     text: &[u8],
-) -> Reached
+) -> Option<(Depths, usize)>
     requires ready { Ready c.depths stacks.old }
     requires runs { Runs x c.depths stacks.old }
     requires operand { Operand x c.code code.now c.depths i }
@@ -41,11 +41,11 @@ pub fn load_global(
     ensures stays { Stays c.depths stacks.old (quick_in result) stacks.new }
 {
     let d = c.depths;
-    let e = with_ip(d, d.ip + 2);
-    let Name::Is(at, size) = name_at(x, i, code, places) else {
-        return Reached::Left;
+    let e = d.with_ip(d.ip + 2);
+    let Some((at, size)) = name_at(x, i, code, places) else {
+        return None;
     };
-    let Found::At(j) = global_named(
+    let Some(j) = global_named(
         at,
         size,
         code,
@@ -56,7 +56,7 @@ pub fn load_global(
         c.sizes.globals,
         guess,
     ) else {
-        return Reached::Left;
+        return None;
     };
     by_row(push_from(e, stacks, heap, GLOBALS_AT + 6 * j + 3), j)
 }
@@ -71,7 +71,7 @@ pub fn load_property(
     stacks: &mut [u64],
     heap: &[u64],
     text: &[u8],
-) -> Reached
+) -> Option<(Depths, usize)>
     requires ready { Ready c.depths stacks.old }
     requires runs { Runs x c.depths stacks.old }
     requires operand { Operand x c.code code.now c.depths i }
@@ -82,21 +82,21 @@ pub fn load_property(
     ensures stays { Stays c.depths stacks.old (quick_in result) stacks.new }
 {
     let d = c.depths;
-    let e = with_ip(d, d.ip + 2);
+    let e = d.with_ip(d.ip + 2);
     let n = e.operands;
     if n == 0 {
-        return Reached::Left;
+        return None;
     }
     let Value::Object(id) = value::read(stacks, 3 * (n - 1)) else {
-        return Reached::Left;
+        return None;
     };
     if c.sizes.objects as u64 <= id {
-        return Reached::Left;
+        return None;
     }
-    let Name::Is(at, size) = name_at(x, i, code, places) else {
-        return Reached::Left;
+    let Some((at, size)) = name_at(x, i, code, places) else {
+        return None;
     };
-    let Found::At(j) = property_named(
+    let Some(j) = property_named(
         at,
         size,
         code,
@@ -108,8 +108,8 @@ pub fn load_property(
         id,
         guess,
     ) else {
-        return Reached::Left;
+        return None;
     };
-    let f = with_operands(e, n - 1);
+    let f = e.with_operands(n - 1);
     by_row(push_from(f, stacks, heap, PROPERTIES_AT + 6 * j + 3), j)
 }

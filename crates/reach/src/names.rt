@@ -10,27 +10,19 @@ ghost use Rattle.reach.specs.Distinct.{Locates};
 ghost use Rattle.reach.specs.Names.{Names, RowIs};
 
 use fetch::Running;
-use heap::{Found, GLOBALS_AT, PROPERTIES_AT};
-use image::FoundConstant;
+use heap::{GLOBALS_AT, PROPERTIES_AT};
 use reader::Constant;
 
-// A place and a size in the code; any other name is spelled elsewhere.
-#[derive(Clone, Copy)]
-pub enum Name {
-    Is(u64, u64),
-    Other,
-}
-
-pub fn name_at(x: Running, i: usize, code: &[u8], places: &[u16]) -> Name
+pub fn name_at(x: Running, i: usize, code: &[u8], places: &[u16]) -> Option<(u64, u64)>
     ensures { Names (constant_in x code.now places.now i) result }
 {
-    let FoundConstant::Is(k) = image::near(code, places, x.shape, i) else {
-        return Name::Other;
+    let Some(k) = image::near(code, places, x.shape, i) else {
+        return None;
     };
     let Constant::Str(at, size) = k else {
-        return Name::Other;
+        return None;
     };
-    Name::Is(at, size)
+    Some((at, size))
 }
 
 // Has the row at place k this head, and this key, in the m bytes of text?
@@ -59,13 +51,13 @@ pub fn find_property(
     owner: u64,
     key: &[u8],
     guess: usize,
-) -> Found
+) -> Option<usize>
     requires { (m ≤ length text.now) × (count ≤ property_limit) × (length heap.now ≡ heap_words) }
     ensures { Locates (pair_at (bytes_of text.now m) heap.now owner key.now) count result }
 {
     if guess < count {
         if row_is(text, m, heap, PROPERTIES_AT + 6 * guess, owner, key) {
-            return Found::At(guess);
+            return Some(guess);
         }
     }
     heap::find_property(text, m, heap, count, owner, key)
@@ -79,13 +71,13 @@ pub fn find_global(
     count: usize,
     name: &[u8],
     guess: usize,
-) -> Found
+) -> Option<usize>
     requires { (m ≤ length text.now) × (count ≤ global_limit) × (length heap.now ≡ heap_words) }
     ensures { Locates (name_at (bytes_of text.now m) heap.now name.now) count result }
 {
     if guess < count {
         if row_is(text, m, heap, GLOBALS_AT + 6 * guess, 0, name) {
-            return Found::At(guess);
+            return Some(guess);
         }
     }
     heap::find_global(text, m, heap, count, name)
@@ -102,7 +94,7 @@ pub fn property_named(
     count: usize,
     owner: u64,
     guess: usize,
-) -> Found
+) -> Option<usize>
     requires n_in_bounds { n ≤ length code.now }
     requires m_in_bounds { (m ≤ length text.now) × (count ≤ property_limit) × (length heap.now ≡ heap_words) }
     ensures { Locates (pair_at (bytes_of text.now m) heap.now owner (named code.now n at size)) count result }
@@ -123,7 +115,7 @@ pub fn global_named(
     heap: &[u64],
     count: usize,
     guess: usize,
-) -> Found
+) -> Option<usize>
     requires n_in_bounds { n ≤ length code.now }
     requires m_in_bounds { (m ≤ length text.now) × (count ≤ global_limit) × (length heap.now ≡ heap_words) }
     ensures { Locates (name_at (bytes_of text.now m) heap.now (named code.now n at size)) count result }

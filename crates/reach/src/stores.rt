@@ -12,12 +12,11 @@ ghost use Rattle.quick.specs.Stays.{Stays};
 ghost use Rattle.reach.specs.Distinct.{Distinct};
 ghost use Rattle.reach.specs.Reaches.{Reaches, quick_in, Sure};
 
-use crate::Reached;
-use crate::names::{Name, global_named, name_at, property_named};
+use crate::names::{global_named, name_at, property_named};
 use fetch::Running;
-use heap::{Found, GLOBALS_AT, ObjectType, PROPERTIES_AT};
+use heap::{GLOBALS_AT, ObjectType, PROPERTIES_AT};
 use heapops::Counts;
-use outcome::{with_ip, with_operands};
+use stacks::Depths;
 use value::Value;
 
 pub fn store_global(
@@ -30,7 +29,7 @@ pub fn store_global(
     stacks: &[u64],
     heap: &mut [u64],
     text: &[u8],
-) -> Reached
+) -> Option<(Depths, usize)>
     requires ready { Ready c.depths stacks.now }
     requires runs { Runs x c.depths stacks.now }
     requires operand { Operand x c.code code.now c.depths i }
@@ -41,15 +40,15 @@ pub fn store_global(
     ensures stays { Stays c.depths stacks.now (quick_in result) stacks.now }
 {
     let d = c.depths;
-    let e = with_ip(d, d.ip + 2);
+    let e = d.with_ip(d.ip + 2);
     let k = e.operands;
     if k == 0 {
-        return Reached::Left;
+        return None;
     }
-    let Name::Is(at, size) = name_at(x, i, code, places) else {
-        return Reached::Left;
+    let Some((at, size)) = name_at(x, i, code, places) else {
+        return None;
     };
-    let Found::At(j) = global_named(
+    let Some(j) = global_named(
         at,
         size,
         code,
@@ -60,10 +59,10 @@ pub fn store_global(
         c.sizes.globals,
         guess,
     ) else {
-        return Reached::Left;
+        return None;
     };
     value::bring(heap, GLOBALS_AT + 6 * j + 3, stacks, 3 * (k - 1));
-    Reached::Went(with_operands(e, k - 1), j)
+    Some((e.with_operands(k - 1), j))
 }
 
 // Of an ordinary object: an array may have to stretch.
@@ -77,7 +76,7 @@ pub fn store_property(
     stacks: &[u64],
     heap: &mut [u64],
     text: &[u8],
-) -> Reached
+) -> Option<(Depths, usize)>
     requires ready { Ready c.depths stacks.now }
     requires runs { Runs x c.depths stacks.now }
     requires operand { Operand x c.code code.now c.depths i }
@@ -88,21 +87,21 @@ pub fn store_property(
     ensures stays { Stays c.depths stacks.now (quick_in result) stacks.now }
 {
     let d = c.depths;
-    let e = with_ip(d, d.ip + 2);
+    let e = d.with_ip(d.ip + 2);
     let k = e.operands;
     if k < 2 {
-        return Reached::Left;
+        return None;
     }
     let Value::Object(id) = value::read(stacks, 3 * (k - 2)) else {
-        return Reached::Left;
+        return None;
     };
     let ObjectType::Ordinary = heap::object_type(c.sizes, heap, id) else {
-        return Reached::Left;
+        return None;
     };
-    let Name::Is(at, size) = name_at(x, i, code, places) else {
-        return Reached::Left;
+    let Some((at, size)) = name_at(x, i, code, places) else {
+        return None;
     };
-    let Found::At(j) = property_named(
+    let Some(j) = property_named(
         at,
         size,
         code,
@@ -114,8 +113,8 @@ pub fn store_property(
         id,
         guess,
     ) else {
-        return Reached::Left;
+        return None;
     };
     value::bring(heap, PROPERTIES_AT + 6 * j + 3, stacks, 3 * (k - 1));
-    Reached::Went(with_operands(e, k - 2), j)
+    Some((e.with_operands(k - 2), j))
 }

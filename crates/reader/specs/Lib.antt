@@ -1,4 +1,4 @@
+pub mod Errors
 pub mod Says
 pub mod Constants
-pub mod Answers
 pub mod Laws

@@ -1,7 +1,7 @@
 -- A function called. Assumes nothing.
-use Rattle.std.specs.Prelude.{ℕ, ◌+◌, ◌-◌, ◌*◌, ◌≤◌, ◌<◌, List, [], ◌≡◌, refl, length, get_or}
+use Rattle.std.specs.Prelude.{ℕ, ◌+◌, ◌-◌, ◌*◌, ◌≤◌, ◌<◌, List, [], ◌≡◌, refl, length, get_or, Option, Some, None, Result, Err}
 use Rattle.std.proofs.Common.{arith, sym, ap, subst, ◌∙◌}
-use Rattle.std.proofs.Math.Option.{Option}
+use Rattle.std.proofs.Math.Option.{Option as Maybe}
 use Rattle.std.proofs.Math.ListN.{get_elem?}
 use Rattle.machine.specs.Value as M
 use Rattle.machine.specs.Image as Im
@@ -17,40 +17,35 @@ use Rattle.image.specs.View.{images_of}
 use Rattle.image.specs.Load.{template_from}
 use Rattle.image.specs.declared.FunctionTemplate.{FunctionTemplate}
 use Rattle.stacks.specs.declared.Depths.{Depths}
-use Rattle.stacks.specs.declared.Made.{Made}
 use Rattle.stacks.specs.View
 use Rattle.stacks.specs.Laws.{with_operands}
 use Rattle.stacks.specs.Popped.{popped_call, popped_call_short}
 use Rattle.heap.specs.View.{function_in, functions_of}
 use Rattle.heap.specs.declared.Sizes.{Sizes}
-use Rattle.heap.specs.declared.Registered.{Registered}
-use Rattle.heap.specs.declared.Registered.TheVariants.{Known, Unknown}
-use Rattle.outcome.specs.declared.End.TheVariants.{Failed}
 use Rattle.outcome.specs.declared.Part.TheVariants.{Ended, Print}
 use Rattle.outcome.specs.declared.Stepped.{Stepped}
 use Rattle.outcome.specs.Meets.{Meets, weaken, onward, settles, settled_of, after_look, fails, stepped, underflow_of, left_print}
 use Rattle.fetch.specs.declared.Running.{Running}
-use Rattle.fetch.specs.declared.Fetched.{Fetched}
-use Rattle.fetch.specs.declared.Fetched.TheVariants.{Got, Missing}
 use Rattle.fetch.specs.Running.{Runs, Fetches, after_fetch, fetch_fails, cut_of}
 use Rattle.readops.specs.Holds.{Templates, Callable, CalleeOf, CalleeIs, calling}
 use Rattle.readops.specs.declared.call.Callee.{Callee}
 use Rattle.readops.specs.declared.call.Callee.TheVariants.{Function, Object, Other}
+use Rattle.value.specs.declared.Stop.{Stop}
 
-module _ {rows starts : List ℕ} {images : ℕ} {d : Depths} {w : List ℕ} {f : Registered} {y : Stepped} (args : List M.Value) where
-  pub unknown : f ≡ Unknown → y ≡ stepped d (Ended (Failed InvalidFunctionId)) → (code places : List ℕ) → Meets (Templates code places rows starts images) (calling (function_in f) args) d w y w
+module _ {rows starts : List ℕ} {images : ℕ} {d : Depths} {w : List ℕ} {f : Option (ℕ × ℕ)} {y : Stepped} (args : List M.Value) where
+  pub unknown : f ≡ None → y ≡ stepped d (Ended (Err InvalidFunctionId)) → (code places : List ℕ) → Meets (Templates code places rows starts images) (calling (function_in f) args) d w y w
   unknown g e code places =
-      subst (λ (u : Registered). Meets (Templates code places rows starts images) (calling (function_in u) args) d w y w) (sym g)
+      subst (λ (u : Option (ℕ × ℕ)). Meets (Templates code places rows starts images) (calling (function_in u) args) d w y w) (sym g)
       (after_look (λ s h. refl) (fails e))
 
-module _ {rows starts : List ℕ} {images : ℕ} {d : Depths} {w w' : List ℕ} {f : Registered} {y : Stepped} (argc : ℕ) where
-  pub known : {i t : ℕ} (p : FunctionTemplate) {r : Made} → f ≡ Known i t
+module _ {rows starts : List ℕ} {images : ℕ} {d : Depths} {w w' : List ℕ} {f : Option (ℕ × ℕ)} {y : Stepped} (argc : ℕ) where
+  pub known : {i t : ℕ} (p : FunctionTemplate) {r : Result Depths Stop} → f ≡ Some (i, t)
       → ((code places : List ℕ) → template_from code places p ≡ get_or (get_or (images_of code places rows starts images) i []) t St.no_template)
       → View.Makes (A.push_frame i t (View.called w (d.operands + 1) argc p.param_count p.local_count)) d w r w' → y ≡ settled_of r d
       → (code places : List ℕ) → Meets (Templates code places rows starts images) (calling (function_in f) (View.arguments w (d.operands + 1) argc)) d w y w'
   known {i} {t} p {r} g a m e code places =
       let args = View.arguments w (d.operands + 1) argc in
-      subst (λ (u : Registered). Meets (Templates code places rows starts images) (calling (function_in u) args) d w y w') (sym g)
+      subst (λ (u : Option (ℕ × ℕ)). Meets (Templates code places rows starts images) (calling (function_in u) args) d w y w') (sym g)
       (after_look
       (λ s h. ap (λ (b : List (List Im.Template)). make (A.push_frame i t (I.locals (get_or (get_or b i []) t St.no_template) args)) next) h.held
       ∙ ap (λ (b : Im.Template). make (A.push_frame i t (I.locals b args)) next) (sym (a code places)))
@@ -75,12 +70,12 @@ callee_other {v} {u} e h = record { is = subst (λ (y : Value). CalleeIs Other (
 abbrev calls : ℕ → Program
 calls n = I.pop_many n [] λ args. I.pop λ f. I.call f args
 
-module _ {x : Running} {n : ℕ} {code places rows starts : List ℕ} {images : ℕ} {z : Sizes} {heap : List ℕ} {d : Depths} {w : List ℕ} {r : Fetched} {y : Stepped}
+module _ {x : Running} {n : ℕ} {code places rows starts : List ℕ} {images : ℕ} {z : Sizes} {heap : List ℕ} {d : Depths} {w : List ℕ} {r : Option (ℕ × Depths)} {y : Stepped}
     (f : Fetches x n code d r) (q : Runs x d w) where
-  pub call_cut : r ≡ Missing → y ≡ cut_of x d → Meets (Callable x n code places rows starts images z heap) I.Call d w y w
+  pub call_cut : r ≡ None → y ≡ cut_of x d → Meets (Callable x n code places rows starts images z heap) I.Call d w y w
   call_cut g e = fetch_fails f calls (λ s h. h.coded) q g e
 
-  module _ {argc : ℕ} {e : Depths} (g : r ≡ Got argc e) where
+  module _ {argc : ℕ} {e : Depths} (g : r ≡ Some (argc, e)) where
     pub call_short : e.operands ≤ argc → y ≡ underflow_of e → Meets (Callable x n code places rows starts images z heap) I.Call d w y w
     call_short l a =
         after_fetch f calls (λ s h. h.coded) q g
@@ -104,19 +99,19 @@ module _ {x : Running} {n : ℕ} {code places rows starts : List ℕ} {images : 
           ∙ ap (λ (k : Depths). out (I.call u (View.arguments w (c.operands + 1) argc)) (View.on_stacks k w s)) s₂) refl m)
 
       -- no function and no object: error 18
-      pub not_callable_lem : {h : Callee} → CalleeOf v h → h ≡ Other → y ≡ stepped c (Ended (Failed NotCallable)) → Meets (Callable x n code places rows starts images z heap) I.Call d w y w
+      pub not_callable_lem : {h : Callee} → CalleeOf v h → h ≡ Other → y ≡ stepped c (Ended (Err NotCallable)) → Meets (Callable x n code places rows starts images z heap) I.Call d w y w
       not_callable_lem h j k =
           let i : CalleeIs Other v = subst (λ (u : Callee). CalleeIs u v) j h.is in
           let args = View.arguments w (c.operands + 1) argc in
           called v refl (subst (λ (p : Program). Meets (Callable x n code places rows starts images z heap) p c w y w) (sym (i args)) (fails k))
 
-      pub calls_function : {w' : List ℕ} {h : Callee} {i : ℕ} (k : Registered) → CalleeOf v h → h ≡ Function i → function_in k ≡ get_elem? (functions_of heap z.functions) i
+      pub calls_function : {w' : List ℕ} {h : Callee} {i : ℕ} (k : Option (ℕ × ℕ)) → CalleeOf v h → h ≡ Function i → function_in k ≡ get_elem? (functions_of heap z.functions) i
           → ((code places : List ℕ) → Meets (Templates code places rows starts images) (calling (function_in k) (View.arguments w (c.operands + 1) argc)) c w y w')
           → Meets (Callable x n code places rows starts images z heap) I.Call d w y w'
       calls_function {w'} {h} {i} k q j o m =
           called (M.function i) (subst (λ (u : Callee). CalleeIs u v) j q.is)
           (onward (λ s h. out_look (View.on_stacks c w s) (λ s. I.call_function s (get_elem? s.functions i) (View.arguments w (c.operands + 1) argc))
-          ∙ ap (λ (u : Option St.Function). out (I.call_function (View.on_stacks c w s) u (View.arguments w (c.operands + 1) argc)) (View.on_stacks c w s))
+          ∙ ap (λ (u : Maybe St.Function). out (I.call_function (View.on_stacks c w s) u (View.arguments w (c.operands + 1) argc)) (View.on_stacks c w s))
           (ap (λ (u : List St.Function). get_elem? u i) h.functions ∙ sym o)
           ∙ sym (out_look (View.on_stacks c w s) (λ s. I.call_function s (function_in k) (View.arguments w (c.operands + 1) argc)))) refl
           (weaken (λ s h. h.templates) (m code places)))

@@ -9,9 +9,9 @@ ghost use Rattle.outcome.specs.Meets.{Meets};
 ghost use Rattle.fetch.specs.Running.{Runs};
 ghost use Rattle.readops.specs.Holds.{Templates, Callable, CalleeOf, calling};
 
-use fetch::{Fetched, Running, cut_short, fetch};
-use heap::{Registered, Sizes};
-use outcome::{Part, Stepped, failed, left_to_do, settle, underflow, with_operands};
+use fetch::{Running, cut_short, fetch};
+use heap::Sizes;
+use outcome::{Part, Stepped, failed, left_to_do, settle, underflow};
 use stacks::Depths;
 use value::{JsVmError, Value};
 
@@ -27,14 +27,9 @@ pub fn callee_of(v: Value) -> Callee
     ensures { CalleeOf (value_of v) result }
 {
     match v {
-        Value::Undefined => Callee::Other,
-        Value::Null => Callee::Other,
-        Value::Boolean(_) => Callee::Other,
-        Value::Number(_) => Callee::Other,
-        Value::CodeText(_, _) => Callee::Other,
-        Value::MadeText(_, _) => Callee::Other,
-        Value::Object(i) => Callee::Object(i),
         Value::Function(i) => Callee::Function(i),
+        Value::Object(i) => Callee::Object(i),
+        _ => Callee::Other,
     }
 }
 
@@ -42,7 +37,7 @@ pub fn callee_of(v: Value) -> Callee
 pub fn call_function(
     d: Depths,
     argc: usize,
-    f: Registered,
+    f: Option<(u64, u64)>,
     rows: &[u16],
     starts: &[u16],
     images: usize,
@@ -52,16 +47,14 @@ pub fn call_function(
     requires argc_bound { d.operands + 1 + argc ≤ operand_limit }
     ensures { (code places : List ℕ) → Meets (Templates code places rows.now starts.now images) (calling (function_in f) (arguments stacks.old (d.operands + 1) argc)) d stacks.old result stacks.new }
 {
-    match f {
-        Registered::Unknown => failed(JsVmError::InvalidFunctionId, d),
-        Registered::Known(i, t) => {
-            let p = image::template_at(rows, starts, images, i as usize, t as usize);
-            settle(
-                stacks::call_frame(d, stacks, i, t, argc, p.param_count, p.local_count),
-                d,
-            )
-        }
-    }
+    let Some((i, t)) = f else {
+        return failed(JsVmError::InvalidFunctionId, d);
+    };
+    let p = image::template_at(rows, starts, images, i as usize, t as usize);
+    settle(
+        d.call_frame(stacks, i, t, argc, p.param_count, p.local_count),
+        d,
+    )
 }
 
 pub fn call(
@@ -82,7 +75,7 @@ pub fn call(
     requires sized { Sized z heap.now }
     ensures { (places : List ℕ) → Meets (Callable x n code.now places rows.now starts.now images z heap.now) Call d stacks.old result stacks.new }
 {
-    let Fetched::Got(argc, e) = fetch(x, d, code, n) else {
+    let Some((argc, e)) = fetch(x, d, code, n) else {
         return cut_short(x, d);
     };
     let k = e.operands;
@@ -90,7 +83,7 @@ pub fn call(
         return underflow(e);
     }
     let at = k - argc - 1;
-    let f = with_operands(e, at);
+    let f = e.with_operands(at);
     match callee_of(value::read(stacks, 3 * at)) {
         Callee::Other => failed(JsVmError::NotCallable, f),
         Callee::Object(_) => left_to_do(Part::Print(argc), f),

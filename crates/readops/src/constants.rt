@@ -13,10 +13,9 @@ ghost use Rattle.outcome.specs.Meets.{Meets};
 ghost use Rattle.fetch.specs.Running.{Runs, Texts};
 ghost use Rattle.readops.specs.Holds.{Constants};
 
-use fetch::{Fetched, Running, cut_short, fetch_word};
-use image::FoundConstant;
+use fetch::{Running, cut_short, fetch_word};
 use number::format::LONGEST_TEXT;
-use outcome::{Pair, Part, Stepped, left_to_do, pop_two, push_value, underflow};
+use outcome::{Part, Stepped, left_to_do, pop_two, push_value, underflow};
 use reader::Constant;
 use stacks::Depths;
 use texts::Source;
@@ -35,19 +34,17 @@ pub fn load_const(
     requires n_in_bounds { n ≤ length code.now }
     ensures { Meets (Constants x n code.now places.now) LoadConst d stacks.old result stacks.new }
 {
-    let Fetched::Got(i, e) = fetch_word(x, d, code, n) else {
+    let Some((i, e)) = fetch_word(x, d, code, n) else {
         return cut_short(x, d);
     };
-    let FoundConstant::Is(k) = image::constant_at(code, places, x.shape, i) else {
-        return push_value(e, stacks, Value::Undefined);
-    };
-    match k {
-        Constant::Number(v) => push_value(e, stacks, Value::Number(v)),
-        Constant::Str(at, size) => push_value(e, stacks, Value::CodeText(at, size)),
-        Constant::Bool(b) => push_value(e, stacks, Value::Boolean(b)),
-        Constant::Null => push_value(e, stacks, Value::Null),
-        Constant::Undefined => push_value(e, stacks, Value::Undefined),
-        Constant::Function(t) => left_to_do(Part::Register(x.image, t), e),
+    match image::constant_at(code, places, x.shape, i) {
+        Some(Constant::Number(v)) => push_value(e, stacks, Value::Number(v)),
+        Some(Constant::Str(at, size)) => push_value(e, stacks, Value::CodeText(at, size)),
+        Some(Constant::Bool(b)) => push_value(e, stacks, Value::Boolean(b)),
+        Some(Constant::Null) => push_value(e, stacks, Value::Null),
+        Some(Constant::Undefined) => push_value(e, stacks, Value::Undefined),
+        None => push_value(e, stacks, Value::Undefined),
+        Some(Constant::Function(t)) => left_to_do(Part::Register(x.image, t), e),
     }
 }
 
@@ -64,20 +61,13 @@ pub fn create_closure(
     requires n_in_bounds { n ≤ length code.now }
     ensures { Meets (Constants x n code.now places.now) CreateClosure d stacks.old result stacks.new }
 {
-    let Fetched::Got(i, e) = fetch_word(x, d, code, n) else {
+    let Some((i, e)) = fetch_word(x, d, code, n) else {
         return cut_short(x, d);
     };
-    let FoundConstant::Is(k) = image::constant_at(code, places, x.shape, i) else {
+    let Some(Constant::Function(t)) = image::constant_at(code, places, x.shape, i) else {
         return push_value(e, stacks, Value::Undefined);
     };
-    match k {
-        Constant::Number(_) => push_value(e, stacks, Value::Undefined),
-        Constant::Str(_, _) => push_value(e, stacks, Value::Undefined),
-        Constant::Bool(_) => push_value(e, stacks, Value::Undefined),
-        Constant::Null => push_value(e, stacks, Value::Undefined),
-        Constant::Undefined => push_value(e, stacks, Value::Undefined),
-        Constant::Function(t) => left_to_do(Part::Register(x.image, t), e),
-    }
+    left_to_do(Part::Register(x.image, t), e)
 }
 
 // `get_string_constant`: a text constant, else the operand in decimal.
@@ -91,32 +81,16 @@ pub fn name(
     requires { (i < 65536) × (length buffer.old ≡ longest_text) }
     ensures { Spells (λ m. get_string_constant m i (get_elem? (constants_of code.now places.now x.shape.constants x.shape.constant_count) i)) result buffer.new }
 {
-    let FoundConstant::Is(k) = image::constant_at(code, places, x.shape, i) else {
+    let Some(Constant::Str(at, size)) = image::constant_at(code, places, x.shape, i) else {
         return arrays::element_key(i, buffer);
     };
-    match k {
-        Constant::Str(at, size) => Source::Code(at, size),
-        Constant::Number(_) => arrays::element_key(i, buffer),
-        Constant::Bool(_) => arrays::element_key(i, buffer),
-        Constant::Null => arrays::element_key(i, buffer),
-        Constant::Undefined => arrays::element_key(i, buffer),
-        Constant::Function(_) => arrays::element_key(i, buffer),
-    }
+    Source::Code(at, size)
 }
 
 pub fn is_text(v: Value) -> bool
     ensures { result ≡ is_text (value_of v) }
 {
-    match v {
-        Value::Undefined => false,
-        Value::Null => false,
-        Value::Boolean(_) => false,
-        Value::Number(_) => false,
-        Value::CodeText(_, _) => true,
-        Value::MadeText(_, _) => true,
-        Value::Object(_) => false,
-        Value::Function(_) => false,
-    }
+    matches!(v, Value::CodeText(_, _) | Value::MadeText(_, _))
 }
 
 pub fn add<'a>(
@@ -131,16 +105,13 @@ pub fn add<'a>(
     requires in_use { InUse code.now n text.now m }
     ensures { Meets (Texts code.now n text.now m) Add d stacks.old result stacks.new }
 {
-    let Pair::Both(a, b, e) = pop_two(d, stacks) else {
+    let Some((a, b, e)) = pop_two(d, stacks) else {
         return underflow(d);
     };
-    if is_text(a) {
-        return left_to_do(Part::Join(a, b), e);
-    }
-    if is_text(b) {
+    if is_text(a) || is_text(b) {
         return left_to_do(Part::Join(a, b), e);
     }
     let u = convert::to_number(code, n, text, m, a);
     let v = convert::to_number(code, n, text, m, b);
-    push_value(e, stacks, Value::Number(u.add(v).bits))
+    push_value(e, stacks, Value::Number((u + v).bits))
 }

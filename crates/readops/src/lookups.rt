@@ -8,11 +8,11 @@ ghost use Rattle.fetch.specs.Running.{Runs};
 ghost use Rattle.readops.specs.Holds.{Objects, Named};
 
 use crate::constants::name;
-use fetch::{Fetched, Running, cut_short, fetch_word};
+use fetch::{Running, cut_short, fetch_word};
 use heap::Sizes;
 use number::format::LONGEST_TEXT;
-use outcome::{Pair, Stepped, pop_two, push_value, underflow};
-use stacks::{Depths, Popped};
+use outcome::{Stepped, pop_two, push_value, underflow};
+use stacks::Depths;
 
 pub fn load_global<'a>(
     x: Running,
@@ -32,7 +32,7 @@ pub fn load_global<'a>(
     requires sized { Sized z heap.now }
     ensures { Meets (Named x n code.now places.now m text.now z heap.now) LoadGlobal d stacks.old result stacks.new }
 {
-    let Fetched::Got(i, e) = fetch_word(x, d, code, n) else {
+    let Some((i, e)) = fetch_word(x, d, code, n) else {
         return cut_short(x, d);
     };
     let mut buffer = [0; LONGEST_TEXT];
@@ -60,10 +60,10 @@ pub fn load_property<'a>(
     requires sized { Sized z heap.now }
     ensures { Meets (Named x n code.now places.now m text.now z heap.now) LoadProperty d stacks.old result stacks.new }
 {
-    let Fetched::Got(i, e) = fetch_word(x, d, code, n) else {
+    let Some((i, e)) = fetch_word(x, d, code, n) else {
         return cut_short(x, d);
     };
-    let Popped::Took(o, f) = stacks::pop(e, stacks) else {
+    let Some((o, f)) = e.pop(stacks) else {
         return underflow(e);
     };
     let mut buffer = [0; LONGEST_TEXT];
@@ -88,7 +88,7 @@ pub fn load_index<'a>(
     requires sized { Sized z heap.now }
     ensures { Meets (Objects n code.now m text.now z heap.now) LoadIndex d stacks.old result stacks.new }
 {
-    let Pair::Both(o, i, e) = pop_two(d, stacks) else {
+    let Some((o, i, e)) = pop_two(d, stacks) else {
         return underflow(d);
     };
     let mut buffer = [0; LONGEST_TEXT];

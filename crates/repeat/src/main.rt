@@ -3,7 +3,6 @@
 #![tactic(auto)]
 
 use heap::HEAP_WORDS;
-use host::{Changed, Numbered, RunAnswer};
 use image::{CODE_BYTES, IMAGES};
 
 const STDOUT: i32 = 1;
@@ -65,19 +64,24 @@ fn once(
     output: &mut [u8; OUTPUT_LIMIT],
     image: &[u8],
 ) -> Last {
-    let Changed::Done(fresh) = engine::clear(code, places, rows, starts, stacks, heap, text, output)
-    else {
+    let Ok(fresh) = engine::clear(code, places, rows, starts, stacks, heap, text, output) else {
         return Last { end: 33, steps: 0 };
     };
     match engine::images::load(
         code, places, rows, starts, stacks, heap, text, output, fresh, image,
     ) {
-        Numbered::Refused(q) => Last { end: q, steps: 0 },
-        Numbered::Done(i, counts) => match engine::runs::run(
+        Err(e) => Last {
+            end: u64::from(e),
+            steps: 0,
+        },
+        Ok((i, counts)) => match engine::runs::run(
             code, places, rows, starts, stacks, heap, text, output, counts, i,
         ) {
-            RunAnswer::Refused(q) => Last { end: q, steps: 0 },
-            RunAnswer::Ran(r) => {
+            Err(e) => Last {
+                end: u64::from(e),
+                steps: 0,
+            },
+            Ok(r) => {
                 let e = r.end;
                 Last {
                     end: run::end_number(e),

@@ -1,6 +1,6 @@
 //! Numbers, texts and values as the list has them. A place past the end of the bytes reads as 256, which no byte is.
 use std::num::wrapping_add_usize;
-use value::Value;
+use value::{Value, Words};
 
 // A value of the list: its kind, its bits, and for a text the place and size of its bytes; then the place behind it.
 #[derive(Clone, Copy)]
@@ -126,7 +126,9 @@ pub fn at(words: &[u64], k: usize) -> u64 {
 
 // The value whose words start at place k.
 pub fn value_at(words: &[u64], k: usize) -> Value {
-    let a = at(words, wrapping_add_usize(k, 1));
-    let b = at(words, wrapping_add_usize(k, 2));
-    value::decode(at(words, k), a, b)
+    Value::from(Words {
+        kind: at(words, k),
+        first: at(words, wrapping_add_usize(k, 1)),
+        second: at(words, wrapping_add_usize(k, 2)),
+    })
 }

@@ -6,16 +6,16 @@ use bytes::{get, quad, triple, wide, word};
 use heap::HEAP_WORDS;
 use heapops::Counts;
 use held::Cursor;
-use host::{Changed, Drained, Numbered, RunAnswer};
+use host::Refusal;
 use image::{CODE_BYTES, IMAGES};
 
 const STDOUT: i32 = 1;
 
-use run::{Ending, Ran};
+use run::Ran;
 use stacks::STACK_WORDS;
 use std::num::{wrapping_add_u64, wrapping_add_usize};
 use texts::{OUTPUT_LIMIT, TEXT_LIMIT};
-use value::JsVmError;
+use value::{JsVmError, Stop, Value};
 
 mod bytes;
 mod held;
@@ -97,15 +97,15 @@ fn byte_of(e: JsVmError) -> u64 {
     }
 }
 
-fn unknown_byte(e: Ending) -> u64 {
+fn unknown_byte(e: Result<Value, Stop>) -> u64 {
     match e {
-        Ending::Failed(f) => byte_of(f),
+        Err(Stop::Failed(f)) => byte_of(f),
         _ => 256,
     }
 }
 
 // The number, then the value of 0 and of 17 and the byte of 13.
-fn ended(code: &[u8], text: &[u8], e: Ending, buf: &[u8], start: Cursor) -> Cursor {
+fn ended(code: &[u8], text: &[u8], e: Result<Value, Stop>, buf: &[u8], start: Cursor) -> Cursor {
     let number = get(buf, start.place);
     let c = held::on(start, 1, run::end_number(e) == number, END);
     if number == 0 || number == 17 {
@@ -117,10 +117,16 @@ fn ended(code: &[u8], text: &[u8], e: Ending, buf: &[u8], start: Cursor) -> Curs
     c
 }
 
-fn output_agrees(d: Drained, out: &[u8], buf: &[u8], c: Cursor, what: u64) -> Cursor {
+fn output_agrees(
+    d: Result<(usize, Counts), Refusal>,
+    out: &[u8],
+    buf: &[u8],
+    c: Cursor,
+    what: u64,
+) -> Cursor {
     match d {
-        Drained::Bytes(n, _) => held::drained(out, n, buf, c, what),
-        Drained::Refused(_) => held::on(c, 0, false, what),
+        Ok((n, _)) => held::drained(out, n, buf, c, what),
+        Err(_) => held::on(c, 0, false, what),
     }
 }
 
@@ -131,7 +137,7 @@ fn compared(
     stacks: &[u64],
     heap: &[u64],
     out: &[u8],
-    d: Drained,
+    d: Result<(usize, Counts), Refusal>,
     r: Ran,
     buf: &[u8],
     start: Cursor,
@@ -207,13 +213,13 @@ fn load_call(
         k,
         &buf[from..to],
     ) {
-        Numbered::Done(i, counts) => Progress {
+        Ok((i, counts)) => Progress {
             counts,
             cursor: held::to(c, to, which == 1 && i as u64 == p.images, LOAD),
             images: wrapping_add_u64(p.images, 1),
             runs: p.runs,
         },
-        Numbered::Refused(q) => not_loaded(p, buf, to, q),
+        Err(e) => not_loaded(p, buf, to, u64::from(e)),
     }
 }
 
@@ -248,8 +254,8 @@ fn run_call(
     match engine::runs::run(
         code, places, rows, starts, stacks, heap, text, output, k, image,
     ) {
-        RunAnswer::Refused(q) => not_run(p, buf, q),
-        RunAnswer::Ran(r) => {
+        Err(e) => not_run(p, buf, u64::from(e)),
+        Ok(r) => {
             let counts = r.counts;
             let d = buffers::drain(
                 code, places, rows, starts, stacks, heap, text, output, counts, out,
@@ -284,13 +290,13 @@ fn drain_call(
     match buffers::drain(
         code, places, rows, starts, stacks, heap, text, output, k, out,
     ) {
-        Drained::Bytes(n, counts) => Progress {
+        Ok((n, counts)) => Progress {
             counts,
             cursor: held::drained(out, n, buf, start, DRAIN),
             images: p.images,
             runs: p.runs,
         },
-        Drained::Refused(_) => failed(p, DRAIN),
+        Err(_) => failed(p, DRAIN),
     }
 }
 
@@ -397,9 +403,7 @@ fn replayed(
             runs: 0,
         };
     }
-    let Changed::Done(counts) = engine::clear(
-        code, places, rows, starts, stacks, heap, text, output,
-    ) else {
+    let Ok(counts) = engine::clear(code, places, rows, starts, stacks, heap, text, output) else {
         return Found {
             differs: CLEAR,
             runs: 0,

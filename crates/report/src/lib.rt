@@ -3,7 +3,7 @@
 
 use heap::HEAP_WORDS;
 use heapops::Counts;
-use host::{Changed, Drained, Numbered, RunAnswer, Wrote};
+use host::Given;
 use image::{CODE_BYTES, IMAGES};
 
 const STDOUT: i32 = 1;
@@ -47,12 +47,12 @@ fn loaded_and_run(
     match engine::images::load(
         code, places, rows, starts, stacks, heap, text, output, fresh, image,
     ) {
-        Numbered::Refused(q) => refused(q, fresh),
-        Numbered::Done(i, loaded) => match engine::runs::run(
+        Err(e) => refused(u64::from(e), fresh),
+        Ok((i, loaded)) => match engine::runs::run(
             code, places, rows, starts, stacks, heap, text, output, loaded, i,
         ) {
-            RunAnswer::Refused(q) => refused(q, loaded),
-            RunAnswer::Ran(r) => {
+            Err(e) => refused(u64::from(e), loaded),
+            Ok(r) => {
                 let e = r.end;
                 let counts = r.counts;
                 Told {
@@ -138,13 +138,13 @@ fn print<'a>(
 ) {
     head(t);
     let k = t.counts;
-    let v = t.value;
-    if let Wrote::Bytes(n) = buffers::text_of(
-        code, places, rows, starts, stacks, heap, text, output, k, v, buffer,
+    let given = Given::Plain(t.value);
+    if let Ok(n) = buffers::text_of(
+        code, places, rows, starts, stacks, heap, text, output, k, given, buffer,
     ) {
         say_text(buffer, n);
     }
-    if let Drained::Bytes(n, _) = buffers::drain(
+    if let Ok((n, _)) = buffers::drain(
         code, places, rows, starts, stacks, heap, text, output, k, buffer,
     ) {
         lines(buffer, n);
@@ -163,8 +163,7 @@ fn whole(
     buffer: &mut [u8; 65536],
     image: &[u8],
 ) {
-    let Changed::Done(fresh) = engine::clear(code, places, rows, starts, stacks, heap, text, output)
-    else {
+    let Ok(fresh) = engine::clear(code, places, rows, starts, stacks, heap, text, output) else {
         return;
     };
     let t = loaded_and_run(

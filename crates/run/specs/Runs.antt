@@ -1,7 +1,7 @@
 -- A run, step by step. Assumes nothing.
 use Prim.Native.Nat.{ℕ, zero, suc, ◌+◌, ◌-◌, ◌*◌, ◌≤◌, ◌<◌}
 use native.Mathlib.Omega.{arith}
-use Rattle.std.specs.Prelude.{List, ◌≡◌, refl, length, get_or}
+use Rattle.std.specs.Prelude.{List, ◌≡◌, refl, length, get_or, Result, Ok, Err}
 use Rattle.std.proofs.Common.{sym, ap, subst, ◌∙◌}
 use Rattle.machine.specs.Fields as Fi
 use Rattle.machine.specs.State as St
@@ -29,8 +29,6 @@ use Rattle.heap.specs.Layout.{heap_words}
 use Rattle.heap.specs.View.{Sized}
 use Rattle.image.specs.View.{images_of}
 use Rattle.outcome.specs.Meets.{end_of}
-use Rattle.outcome.specs.declared.End.{End}
-use Rattle.outcome.specs.declared.End.TheVariants.{Finished as End-as-Finished, Failed as End-as-Failed}
 use Rattle.outcome.specs.declared.Part.{Part}
 use Rattle.outcome.specs.declared.Part.TheVariants.{Went as Part-as-Went, Ended as Part-as-Ended, Refused as Part-as-Refused, Register, Join, Print, More}
 use Rattle.outcome.specs.declared.Stepped.{Stepped}
@@ -46,9 +44,11 @@ use Rattle.finish.specs.Parts.{Tables, Ground, Finishes, with_stacks, part_out, 
 use Rattle.finish.specs.Laws.{looks_named, looks_below}
 use Rattle.reach.specs.Leaps.{leapt_to}
 use Rattle.run.specs.Bounds.{went_bounded, ended_bounded}
-use Rattle.run.specs.declared.Ending.{Ending}
-use Rattle.run.specs.declared.Ending.TheVariants.{Finished, Failed, Full}
 use Rattle.run.specs.declared.Ran.{Ran}
+use Rattle.value.specs.declared.Value.{Value}
+use Rattle.value.specs.declared.Stop.{Stop}
+use Rattle.value.specs.declared.JsVmError.{JsVmError}
+use Rattle.value.specs.declared.Stop.TheVariants.{Failed, Refused}
 
 -- The place of the newest frame: 0 where none stands.
 abbrev pub place_in : ℕ → ℕ → ℕ
@@ -90,21 +90,21 @@ rest_state c m s =
     ap (λ (f : List St.Frame). Stacks.under (Stacks.operands_of m.stacks d.operands) (Stacks.slots_of m.stacks d.slots) f (Stacks.handlers_of m.stacks d.handlers) (below c m s))
     (frames_rest m.stacks d.frames d.ip)
 
-abbrev pub ran_to : Ending → ℕ → Counts → Ran
+abbrev pub ran_to : Result Value Stop → ℕ → Counts → Ran
 ran_to e n c = record { end = e; steps = n; counts = at_rest c }
 
-abbrev pub result_of : Ending → R.Result
-result_of (Finished v) = R.ended (P.finished (value_of v))
-result_of (Failed e) = R.ended (P.failed (error_of e))
-result_of (Full q) = R.full (space_of q)
+abbrev pub result_of : Result Value Stop → R.Result
+result_of (Ok v) = R.ended (P.finished (value_of v))
+result_of (Err (Failed e)) = R.ended (P.failed (error_of e))
+result_of (Err (Refused q)) = R.full (space_of q)
 
-abbrev pub ending_of : End → Ending
-ending_of (End-as-Finished v) = Finished v
-ending_of (End-as-Failed e) = Failed e
+abbrev pub ending_of : Result Value JsVmError → (Result Value Stop)
+ending_of (Ok v) = Ok v
+ending_of (Err e) = Err (Failed e)
 
-pub ending_is : (e : End) → result_of (ending_of e) ≡ R.ended (end_of e)
-ending_is (End-as-Finished v) = refl
-ending_is (End-as-Failed e) = refl
+pub ending_is : (e : Result Value JsVmError) → result_of (ending_of e) ≡ R.ended (end_of e)
+ending_is (Ok v) = refl
+ending_is (Err e) = refl
 
 -- what is seen of a run: its steps, its result, and the state that it leaves
 pub record Told : Type 0 where
@@ -268,7 +268,7 @@ pub record Underway (b : St.State) (all : Told) (k : ℕ) (c : Counts) (g : Tabl
   pub whole : Whole c g m s
 
 module _ {b : St.State} {all : Told} {k : ℕ} {c : Counts} {g : Tables} {m : Mem} {s : St.State} (u : Underway b all k c g m s) where
-  pub stops : k ≡ max_steps → Unique b → tell k (result_of (Failed ExecutionLimitExceeded)) (state_of c m s) ≡ all
+  pub stops : k ≡ max_steps → Unique b → tell k (result_of (Err (Failed ExecutionLimitExceeded))) (state_of c m s) ≡ all
   unfolding run_of
   stops e h = let z : max_steps - k ≡ 0 = omega arith in rw z at (u.left h)
 
@@ -306,13 +306,13 @@ module _ {b : St.State} {all : Told} {k : ℕ} {c : Counts} {g : Tables} {m : Me
     pub known_after : Known g.rows g.starts t.counts.images x
     known_after = subst (λ (i : ℕ). Known g.rows g.starts i x) (sym tk.steady.1) n
 
-    pub finishes : {e : End} {z : Ending} → t.how ≡ Ended e → z ≡ ending_of e → Unique b → tell (k + 1) (result_of z) (state_of t.counts m' s) ≡ all
+    pub finishes : {e : Result Value JsVmError} {z : Result Value Stop} → t.how ≡ Ended e → z ≡ ending_of e → Unique b → tell (k + 1) (result_of z) (state_of t.counts m' s) ≡ all
     finishes {e} {z} h i f =
         let o : out (program_of (state_of c m s)) (state_of c m s) ≡ ended (end_of e) (state_of t.counts m' s) = subst (λ (h : How). Tells h t.counts m' s (out (program_of (state_of c m s)) (state_of c m s))) h tells in
-        ap (λ (y : Ending). tell (k + 1) (result_of y) (state_of t.counts m' s)) i ∙ ap (λ (y : R.Result). tell (k + 1) y (state_of t.counts m' s)) (ending_is e)
+        ap (λ (y : Result Value Stop). tell (k + 1) (result_of y) (state_of t.counts m' s)) i ∙ ap (λ (y : R.Result). tell (k + 1) y (state_of t.counts m' s)) (ending_is e)
         ∙ ap (λ (y : Out). then_do y (k + 1) (state_of c m s) (λ t. run_of (max_steps - (k + 1)) (k + 1) t)) (sym o) ∙ more f
 
-    pub finishes_whole : {e : End} → t.how ≡ Ended e → length m'.stacks ≡ length m.stacks → length m'.heap ≡ length m.heap → length m'.text ≡ length m.text → length m'.output ≡ length m.output
+    pub finishes_whole : {e : Result Value JsVmError} → t.how ≡ Ended e → length m'.stacks ≡ length m.stacks → length m'.heap ≡ length m.heap → length m'.text ≡ length m.text → length m'.output ≡ length m.output
         → Whole t.counts g m' s
     finishes_whole {e} h p q y v =
         let o : out (program_of (state_of c m s)) (state_of c m s) ≡ ended (end_of e) (state_of t.counts m' s) = subst (λ (h : How). Tells h t.counts m' s (out (program_of (state_of c m s)) (state_of c m s))) h tells in
@@ -322,7 +322,7 @@ module _ {b : St.State} {all : Told} {k : ℕ} {c : Counts} {g : Tables} {m : Me
       same : state_of c m' s ≡ state_of c m s
       same = (subst (λ (h : How). KeptOf h c m m') h tk.kept) c.depths s
 
-      pub refuses : Unique b → tell (k + 1) (result_of (Full q)) (state_of c m' s) ≡ all
+      pub refuses : Unique b → tell (k + 1) (result_of (Err (Refused q))) (state_of c m' s) ≡ all
       refuses f =
           let o : out (program_of (state_of c m s)) (state_of c m s) ≡ refused (space_of q) = subst (λ (h : How). Tells h t.counts m' s (out (program_of (state_of c m s)) (state_of c m s))) h tells in
           ap (λ (y : St.State). tell (k + 1) (R.full (space_of q)) y) same

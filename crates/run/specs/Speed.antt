@@ -1,5 +1,5 @@
 -- Quick steps, one after another. Assumes nothing.
-use Rattle.std.specs.Prelude.{ℕ, suc, ◌+◌, ◌-◌, ◌≤◌, ◌<◌, Bool, true, false, not, List, [], ◌≡◌, refl, length}
+use Rattle.std.specs.Prelude.{ℕ, suc, ◌+◌, ◌-◌, ◌≤◌, ◌<◌, Bool, true, false, not, List, [], ◌≡◌, refl, length, Option, Some, None}
 use Rattle.std.proofs.Common.{arith, sym, ap, subst, ◌∙◌}
 use Rattle.machine.specs.State as St
 use Rattle.machine.specs.Run.{max_steps}
@@ -15,8 +15,6 @@ use Rattle.readops.specs.Holds.{Constants}
 use Rattle.quick.specs.Quickly.{QuickStep}
 use Rattle.quick.specs.Stays.{Stays, Kept, InFrame, frame_kept}
 use Rattle.quick.specs.declared.Here.{Here}
-use Rattle.quick.specs.declared.Quick.{Quick}
-use Rattle.quick.specs.declared.Quick.TheVariants.{Went, Left}
 use Rattle.heapops.specs.declared.Counts.{Counts}
 use Rattle.heapops.specs.Turns.{Mem, mem, below, state_of, with_depths}
 use Rattle.finish.specs.Parts.{Tables, tables, Ground}
@@ -24,10 +22,6 @@ use Rattle.finish.specs.Laws.{looks_named, looks_below}
 use Rattle.reach.specs.Distinct.{Distinct, unique_distinct}
 use Rattle.reach.specs.Reaches.{ReachStep, Sure, quick_in, sized_kept}
 use Rattle.reach.specs.Leaps.{LeapStep, leapt_to}
-use Rattle.reach.specs.declared.Reached.{Reached}
-use Rattle.reach.specs.declared.Reached.TheVariants.{Went as Reached-as-Went, Left as Reached-as-Left}
-use Rattle.reach.specs.declared.leaps.Leap.{Leap}
-use Rattle.reach.specs.declared.leaps.Leap.TheVariants.{Went as Leap-as-Went, Left as Leap-as-Left}
 use Rattle.run.specs.Runs.{Told, then_do, program_of, run_of, whole_base, whole_moved, Underway}
 use Rattle.run.specs.declared.speed.Strode.{Strode}
 use Rattle.run.specs.declared.speed.Sped.{Sped}
@@ -104,17 +98,17 @@ module _ {x : Running} {y : Here} {c : Counts} {code places w h t : List ℕ} {k
         to = omega arith;
       })
 
-  module _ {q : Quick} {w₂ : List ℕ} (t₁ : QuickStep (Constants x c.code code places) e w₁ q w₂) (s₁ : Stays e w₁ q w₂) where
-    pub stride_quick : {f d : Depths} → q ≡ Went f → d ≡ stay_of e f → j < max_steps - 2 → Strides x y c code places w h t k (strode d (j + 1)) w₂ h₁
+  module _ {q : Option Depths} {w₂ : List ℕ} (t₁ : QuickStep (Constants x c.code code places) e w₁ q w₂) (s₁ : Stays e w₁ q w₂) where
+    pub stride_quick : {f d : Depths} → q ≡ Some f → d ≡ stay_of e f → j < max_steps - 2 → Strides x y c code places w h t k (strode d (j + 1)) w₂ h₁
     stride_quick g i l =
         let m = rw g at t₁.told in
         further (λ rows starts o s a u. m.0 (below c (mem w₁ h₁ t o) s) (looks_named (below c (mem w₁ h₁ t o) s) (looks_below (mem w₁ h₁ t o) s a)).constants) m.1 (rw g at s₁.told) p.sized l i
 
     -- an instruction that is left changes nothing
-    pub stride_left : q ≡ Left → Strides x y c code places w h t k (strode e j) w₂ h₁
+    pub stride_left : q ≡ None → Strides x y c code places w h t k (strode e j) w₂ h₁
     stride_left g = let same : w₂ ≡ w₁ = rw g at t₁.told in subst (λ (u : List ℕ). Strides x y c code places w h t k (strode e j) u h₁) (sym same) p
 
-  module _ {b : Counts} (q : Reached) {w₂ h₂ : List ℕ} (z : b ≡ with_depths e c)
+  module _ {b : Counts} (q : Option (Depths × ℕ)) {w₂ h₂ : List ℕ} (z : b ≡ with_depths e c)
       (t₁ : (rows starts o : List ℕ) → ReachStep (Sure (Distinct b.sizes h₁ b.text t) (Ground x b (tables code places rows starts))) b (mem w₁ h₁ t o) (quick_in q) (mem w₂ h₂ t o))
       (s₁ : Stays b.depths w₁ (quick_in q) w₂) where
     step₁ : (rows starts o : List ℕ) → ReachStep (Sure (Distinct c.sizes h₁ c.text t) (Ground x (with_depths e c) (tables code places rows starts))) (with_depths e c) (mem w₁ h₁ t o) (quick_in q) (mem w₂ h₂ t o)
@@ -123,12 +117,12 @@ module _ {x : Running} {y : Here} {c : Counts} {code places w h t : List ℕ} {k
     stays₁ : Stays e w₁ (quick_in q) w₂
     stays₁ = subst (λ (u : Counts). Stays u.depths w₁ (quick_in q) w₂) z s₁
 
-    pub stride_reach : {f d : Depths} {i : ℕ} → q ≡ Reached-as-Went f i → d ≡ stay_of e f → length h₂ ≡ length h₁ → j < max_steps - 2 → Strides x y c code places w h t k (strode d (j + 1)) w₂ h₂
+    pub stride_reach : {f d : Depths} {i : ℕ} → q ≡ Some (f, i) → d ≡ stay_of e f → length h₂ ≡ length h₁ → j < max_steps - 2 → Strides x y c code places w h t k (strode d (j + 1)) w₂ h₂
     stride_reach g i l n =
         further (λ rows starts o s a u. let m = rw g at (step₁ rows starts o).told in m.0 s (record { code = a.code; images = a.images; known = a.known }, unique_distinct (with_depths e c) (mem w₁ h₁ t o) s u))
         (let m = rw g at (step₁ [] [] []).told in m.1) (rw g at stays₁.told) (sized_kept p.sized l) n i
 
-    pub stride_stops : q ≡ Reached-as-Left → Strides x y c code places w h t k (strode e j) w₂ h₂
+    pub stride_stops : q ≡ None → Strides x y c code places w h t k (strode e j) w₂ h₂
     stride_stops g =
         let m : mem w₂ h₂ t [] ≡ mem w₁ h₁ t [] = rw g at (step₁ [] [] []).told in
         subst (λ (u : Mem). Strides x y c code places w h t k (strode e j) u.stacks u.heap) (sym m) p
@@ -183,8 +177,8 @@ module _ {c d : Counts} {g : Tables} {w h t w₁ h₁ t₁ : List ℕ} {k j : �
       })
 
   -- a step that may leave the frame
-  module _ {q : Leap} {w₂ t₂ : List ℕ} (r : (o : List ℕ) → LeapStep (Ground x d g) d (mem w₁ h₁ t₁ o) q (mem w₂ h₁ t₂ o)) where
-    pub speed_leap : {b : Counts} {e : Depths} {i : ℕ} → q ≡ Leap-as-Went e i → b ≡ leapt_to e i d → j < max_steps - 1 → length t₂ ≡ length t₁ → Speeds c g w h t k (sped_to b (j + 1)) w₂ h₁ t₂
+  module _ {q : Option (Depths × ℕ)} {w₂ t₂ : List ℕ} (r : (o : List ℕ) → LeapStep (Ground x d g) d (mem w₁ h₁ t₁ o) q (mem w₂ h₁ t₂ o)) where
+    pub speed_leap : {b : Counts} {e : Depths} {i : ℕ} → q ≡ Some (e, i) → b ≡ leapt_to e i d → j < max_steps - 1 → length t₂ ≡ length t₁ → Speeds c g w h t k (sped_to b (j + 1)) w₂ h₁ t₂
     speed_leap {e = e} {i = i} f z l y =
         let m = rw f at (r []).told in
         subst (λ (y : Counts). Speeds c g w h t k (sped_to y (j + 1)) w₂ h₁ t₂) (sym z) (record {
@@ -201,7 +195,7 @@ module _ {c d : Counts} {g : Tables} {w h t w₁ h₁ t₁ : List ℕ} {k j : �
           images = p.images;
         })
 
-    pub speed_left : q ≡ Leap-as-Left → Speeds c g w h t k (sped_to d j) w₂ h₁ t₂
+    pub speed_left : q ≡ None → Speeds c g w h t k (sped_to d j) w₂ h₁ t₂
     speed_left f =
         let m : mem w₂ h₁ t₂ [] ≡ mem w₁ h₁ t₁ [] = rw f at (r []).told in
         subst (λ (y : Mem). Speeds c g w h t k (sped_to d j) y.stacks y.heap y.text) (sym m) p

@@ -103,8 +103,7 @@ fn proceed(
     let how = t.how;
     let counts = t.counts;
     match how {
-        How::Went => came(counts, x, steps, how),
-        How::Ended(_) => came(counts, x, steps, how),
+        How::Went | How::Ended(_) => came(counts, x, steps, how),
         How::Refused(_) => came(d, x, steps, how),
     }
 }
@@ -133,34 +132,4 @@ pub fn advance<'c>(
     );
     *c = next.counts;
     next.progress
-}
-
-// The same with the counts by value, for the loop of a run: it lends a copy of them.
-pub fn advance_copy(
-    x: Running,
-    c: Counts,
-    made: usize,
-    code: &[u8],
-    places: &[u16],
-    rows: &[u16],
-    starts: &[u16],
-    stacks: &mut [u64],
-    heap: &mut [u64],
-    text: &mut [u8],
-    output: &mut [u8],
-    hints: &mut [usize; HINTS],
-) -> Advanced
-    requires whole { Whole c (tables code.now places.now rows.now starts.now) (mem stacks.old heap.old text.old output.old) (ground_of c (tables code.now places.now rows.now starts.now)) }
-    requires known { Known rows.now starts.now c.images x }
-    requires made_lt_max_steps { made < max_steps }
-    ensures { Advances c (tables code.now places.now rows.now starts.now) (mem stacks.old heap.old text.old output.old) made result (mem stacks.new heap.new text.new output.new) }
-{
-    let mut at = c;
-    let progress = advance(
-        &mut at, x, made, code, places, rows, starts, stacks, heap, text, output, hints,
-    );
-    Advanced {
-        counts: at,
-        progress,
-    }
 }

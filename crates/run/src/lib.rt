@@ -7,30 +7,21 @@ mod speed;
 ghost use Rattle.std.specs.Prelude.{◌≡◌};
 ghost use Rattle.machine.proofs.Unique.{Unique};
 ghost use Rattle.machine.specs.Run as R;
-ghost use Rattle.machine.specs.Error as E;
-ghost use Rattle.machine.specs.State as St;
-ghost use Rattle.value.specs.Errors.{error_of, space_of};
+ghost use Rattle.value.specs.Errors.{error_of};
 ghost use Rattle.value.specs.Words.{value_of};
 ghost use Rattle.heapops.specs.Turns.{mem};
 ghost use Rattle.finish.specs.Parts.{tables};
 ghost use Rattle.run.specs.Runs.{result_of, ending_of, ran_to, at_rest, Whole, ground_of, state_in, ran_of, run_of, Leaves};
 
-use advance::advance_copy;
+use advance::advance;
 use heapops::{Counts, How, with_depths};
-use outcome::End;
 use speed::HINTS;
-use value::{JsVmError, Space, Value};
-
-#[derive(Clone, Copy)]
-pub enum Ending {
-    Finished(Value),
-    Failed(JsVmError),
-    Full(Space),
-}
+use stacks::Depths;
+use value::{JsVmError, Stop, Value};
 
 #[derive(Clone, Copy)]
 pub struct Ran {
-    pub end: Ending,
+    pub end: Result<Value, Stop>,
     pub steps: usize,
     pub counts: Counts,
 }
@@ -39,69 +30,35 @@ pub struct Ran {
 fn at_rest(c: Counts) -> Counts
     ensures { result ≡ at_rest c }
 {
-    let mut d = c.depths;
+    let d = c.depths;
     if d.frames == 0 {
-        d.ip = 0;
-        return with_depths(c, d);
+        return with_depths(c, Depths { ip: 0, ..d });
     }
     c
 }
 
-fn ran_to(end: Ending, steps: usize, c: Counts) -> Ran
+fn ran_to(end: Result<Value, Stop>, steps: usize, c: Counts) -> Ran
     ensures { result ≡ ran_to end steps c }
 {
-    let counts = at_rest(c);
-    Ran { end, steps, counts }
+    Ran {
+        end,
+        steps,
+        counts: at_rest(c),
+    }
 }
 
-fn ended_by(e: End) -> Ending
+fn ended_by(e: Result<Value, JsVmError>) -> Result<Value, Stop>
     ensures { result ≡ ending_of e }
 {
-    match e {
-        End::Finished(v) => Ending::Finished(v),
-        End::Failed(q) => Ending::Failed(q),
-    }
+    e.map_err(Stop::Failed)
 }
 
-pub fn error_number(e: JsVmError) -> u64
-    ensures { result ≡ E.error_number (error_of e) }
-{
-    match e {
-        JsVmError::ExecutionLimitExceeded => 12,
-        JsVmError::UnknownOpcode(_) => 13,
-        JsVmError::IpOutOfBounds => 14,
-        JsVmError::StackUnderflow => 15,
-        JsVmError::StackOverflow => 16,
-        JsVmError::UncaughtException(_) => 17,
-        JsVmError::NotCallable => 18,
-        JsVmError::InvalidFunctionId => 19,
-        JsVmError::NoCallFrame => 20,
-    }
-}
-
-pub fn question(q: Space) -> u64
-    ensures { result ≡ St.question (space_of q) }
-{
-    match q {
-        Space::Frames => 11,
-        Space::Slots => 21,
-        Space::Handlers => 22,
-        Space::Functions => 23,
-        Space::Objects => 24,
-        Space::Properties => 25,
-        Space::Globals => 26,
-        Space::Text => 27,
-        Space::Output => 28,
-    }
-}
-
-pub fn end_number(e: Ending) -> u64
+pub fn end_number(e: Result<Value, Stop>) -> u64
     ensures { result ≡ R.end_number (result_of e) }
 {
     match e {
-        Ending::Finished(_) => 0,
-        Ending::Failed(q) => error_number(q),
-        Ending::Full(q) => question(q),
+        Ok(_) => 0,
+        Err(s) => u64::from(s),
     }
 }
 
@@ -110,24 +67,17 @@ fn thrown_value(e: JsVmError) -> Value
 {
     match e {
         JsVmError::UncaughtException(v) => v,
-        JsVmError::ExecutionLimitExceeded => Value::Undefined,
-        JsVmError::UnknownOpcode(_) => Value::Undefined,
-        JsVmError::IpOutOfBounds => Value::Undefined,
-        JsVmError::StackUnderflow => Value::Undefined,
-        JsVmError::StackOverflow => Value::Undefined,
-        JsVmError::NotCallable => Value::Undefined,
-        JsVmError::InvalidFunctionId => Value::Undefined,
-        JsVmError::NoCallFrame => Value::Undefined,
+        _ => Value::Undefined,
     }
 }
 
-pub fn end_value(e: Ending) -> Value
+pub fn end_value(e: Result<Value, Stop>) -> Value
     ensures { value_of result ≡ R.end_value (result_of e) }
 {
     match e {
-        Ending::Finished(v) => v,
-        Ending::Failed(q) => thrown_value(q),
-        Ending::Full(_) => Value::Undefined,
+        Ok(v) => v,
+        Err(Stop::Failed(q)) => thrown_value(q),
+        Err(Stop::Refused(_)) => Value::Undefined,
     }
 }
 
@@ -157,23 +107,24 @@ pub fn run_loop(
     let mut d = c;
     let mut steps: usize = 0;
     while steps < MAX_STEPS {
-        let r = advance_copy(
-            x, d, steps, code, places, rows, starts, stacks, heap, text, output, &mut hints,
+        let p = advance(
+            &mut d, x, steps, code, places, rows, starts, stacks, heap, text, output, &mut hints,
         );
-        let p = r.progress;
-        d = r.counts;
         x = p.running;
         steps = p.steps;
-        let how = p.how;
-        match how {
+        match p.how {
             How::Went => {}
             How::Ended(e) => {
                 return ran_to(ended_by(e), steps, d);
             }
             How::Refused(q) => {
-                return ran_to(Ending::Full(q), steps, d);
+                return ran_to(Err(Stop::Refused(q)), steps, d);
             }
         }
     }
-    ran_to(Ending::Failed(JsVmError::ExecutionLimitExceeded), steps, d)
+    ran_to(
+        Err(Stop::Failed(JsVmError::ExecutionLimitExceeded)),
+        steps,
+        d,
+    )
 }

@@ -14,9 +14,8 @@ ghost use Rattle.run.specs.Speed.{Strides, Speeds, strode, sped_to, stay_of};
 use crate::MAX_STEPS;
 use fetch::Running;
 use heapops::{Counts, with_depths};
-use quick::{Here, Quick, Standing};
-use reach::leaps::Leap;
-use reach::{Reached, leaps};
+use quick::Here;
+use reach::leaps;
 use stacks::{Depths, FRAMES_AT};
 
 // For each place of the code, by its lowest bits: the row that was found there last. A hint is tried, and never trusted.
@@ -56,31 +55,31 @@ fn sped_to(c: Counts, k: usize) -> Sped
 fn leapt_to(c: Counts, d: Depths, m: usize) -> Counts
     ensures { result ≡ leapt_to d m c }
 {
-    let mut e = c;
-    e.depths = d;
-    e.text = m;
-    e
+    Counts {
+        depths: d,
+        text: m,
+        ..c
+    }
 }
 
 // The depths f, of which it is known that frames and slots are those of d: so the loop need not carry them.
 fn stay(d: Depths, f: Depths) -> Depths
     ensures { result ≡ stay_of d f }
 {
-    let mut e = d;
-    e.operands = f.operands;
-    e.handlers = f.handlers;
-    e.ip = f.ip;
-    e
+    Depths {
+        operands: f.operands,
+        handlers: f.handlers,
+        ip: f.ip,
+        ..d
+    }
 }
 
 // Is all of a template's code among the n bytes that are loaded?
 fn loaded(x: Running, n: usize) -> bool
     ensures { result ≡ true → x.shape.at + x.shape.size ≤ n }
 {
-    if n < x.shape.at {
-        return false;
-    }
-    x.shape.size <= n - x.shape.at
+    n.checked_sub(x.shape.at)
+        .is_some_and(|left| x.shape.size <= left)
 }
 
 // Quick steps in one frame; two steps of the run are left to make.
@@ -108,17 +107,16 @@ fn stride(
     let mut k = steps;
     while k < MAX_STEPS - 2 {
         match quick::step(x, y, e, code, c.code, places, stacks) {
-            Quick::Went(f) => {
+            Some(f) => {
                 e = stay(e, f);
                 k += 1;
             }
-            Quick::Left => {
+            None => {
                 let at = e.ip % HINTS;
                 let guess = hints[at];
                 let b = with_depths(c, e);
-                let Reached::Went(f, row) = reach::step(
-                    x, y, b, guess, code, places, stacks, heap, text,
-                ) else {
+                let Some((f, row)) = reach::step(x, y, b, guess, code, places, stacks, heap, text)
+                else {
                     return strode_to(e, k);
                 };
                 hints[at] = row;
@@ -186,13 +184,13 @@ pub fn speed(
         if !loaded(x, d.code) {
             return sped_to(d, made);
         }
-        let Standing::Is(h) = quick::stand(x, d.depths, stacks) else {
+        let Some(h) = quick::stand(x, d.depths, stacks) else {
             return sped_to(d, made);
         };
         let r = stride(x, h, d, made, code, places, stacks, heap, text, hints);
         d = with_depths(d, r.depths);
         made = r.steps;
-        let Leap::Went(f, m) = leaps::step(x, d, code, rows, starts, stacks, heap, text) else {
+        let Some((f, m)) = leaps::step(x, d, code, rows, starts, stacks, heap, text) else {
             return sped_to(d, made);
         };
         d = leapt_to(d, f, m);

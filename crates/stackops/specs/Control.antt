@@ -1,5 +1,5 @@
 -- Branches, tries, throws and the end of a run. Assumes nothing.
-use Rattle.std.specs.Prelude.{ℕ, ◌+◌, ◌-◌, ◌*◌, Bool, true, false, List, [], ◌∷◌, ◌≡◌, refl}
+use Rattle.std.specs.Prelude.{ℕ, ◌+◌, ◌-◌, ◌*◌, Bool, true, false, List, [], ◌∷◌, ◌≡◌, refl, Option, Some, None, Result, Ok, Err}
 use Rattle.std.proofs.Common.{sym, ◌∙◌}
 use Rattle.std.proofs.Math.Path.{ap, subst}
 use Rattle.machine.specs.Value as M
@@ -19,24 +19,19 @@ use Rattle.value.specs.declared.Value.{Value}
 use Rattle.value.specs.declared.Value.TheVariants.{Undefined}
 use Rattle.stacks.specs.declared.Depths.{Depths}
 use Rattle.stacks.specs.declared.Handler.{Handler}
-use Rattle.stacks.specs.declared.Made.{Made}
-use Rattle.stacks.specs.declared.Made.TheVariants.{Went as Made-as-Went, Failed as Made-as-Failed, Refused as Made-as-Refused}
-use Rattle.stacks.specs.declared.Popped.{Popped}
-use Rattle.stacks.specs.declared.Popped.TheVariants.{Took, Empty}
 use Rattle.stacks.specs.Layout.{handlers_at}
 use Rattle.stacks.specs.Laws.{with_ip}
 use Rattle.stacks.specs.View
 use Rattle.convert.specs.Truth.{Truth}
 use Rattle.texts.specs.Sources.{InUse}
-use Rattle.outcome.specs.Meets.{Meets, stepped, underflow_of, Tells, KeptOf, onward, after_look, after_pop, pop_fails, after_gives, goes_on, jumps, fails}
-use Rattle.outcome.specs.declared.End.TheVariants.{Finished, Failed}
+use Rattle.outcome.specs.Meets.{Meets, stepped, underflow_of, Tells, KeptOf, onward, after_look, after_pop, pop_fails, after_gives, goes_on, jumps, fails, stopped_by}
 use Rattle.outcome.specs.declared.Part.TheVariants.{Went, Ended, Refused}
 use Rattle.outcome.specs.declared.Stepped.{Stepped}
 use Rattle.fetch.specs.Running.{Runs, CodedText, FetchesWord, cut_of, after_fetch, fetch_fails, texts_of}
-use Rattle.fetch.specs.declared.Fetched.{Fetched}
-use Rattle.fetch.specs.declared.Fetched.TheVariants.{Got, Missing}
 use Rattle.fetch.specs.declared.Running.{Running}
-use Rattle.stackops.specs.Values.{stores_of_lem, truth_is}
+use Rattle.stackops.specs.Values.{agrees, stores_of_lem, truth_is}
+use Rattle.value.specs.declared.Stop.{Stop}
+use Rattle.value.specs.declared.Stop.TheVariants.{Failed, Refused}
 
 -- THE LAW OF BRANCHES: a jump where f holds of the truth of the newest operand
 abbrev pub on : (Bool → Bool) → ℕ → M.Value → Program
@@ -45,21 +40,25 @@ on f p v = look λ s. I.jump_if (f (to_boolean (St.bytes s) v)) p
 abbrev pub branch : (Bool → Bool) → Program
 branch f = I.fetch_word λ p. I.pop (on f p)
 
+-- JumpIfTrue and JumpIfFalse
+abbrev pub JumpIf : Bool → Program
+JumpIf b = branch (agrees b)
+
 sensed : (f : Bool → Bool) (p : ℕ) (v : Value) {x : Running} {n m : ℕ} {code text : List ℕ} {t b : Bool} → Truth n m (value_of v) t → InUse code n text m → f t ≡ b
     → (s : St.State) → CodedText x n code m text s → I.jump_if (f (to_boolean (St.bytes s) (value_of v))) p ≡ I.jump_if b p
 sensed f p v u z e s h =
     ap (λ (k : St.Bytes). I.jump_if (f (to_boolean k (value_of v))) p) (stores_of_lem (texts_of h)) ∙ ap (λ (k : Bool). I.jump_if (f k) p) (truth_is u refl z)
     ∙ ap (λ (k : Bool). I.jump_if k p) e
 
-module _ (f : Bool → Bool) {x : Running} {n m : ℕ} {code text : List ℕ} {d : Depths} {w : List ℕ} {r : Fetched} {y : Stepped} (i : FetchesWord x n code d r) (q : Runs x d w) where
-  pub branch_cut : r ≡ Missing → y ≡ cut_of x d → Meets (CodedText x n code m text) (branch f) d w y w
+module _ (f : Bool → Bool) {x : Running} {n m : ℕ} {code text : List ℕ} {d : Depths} {w : List ℕ} {r : Option (ℕ × Depths)} {y : Stepped} (i : FetchesWord x n code d r) (q : Runs x d w) where
+  pub branch_cut : r ≡ None → y ≡ cut_of x d → Meets (CodedText x n code m text) (branch f) d w y w
   branch_cut g e = fetch_fails i (λ p. I.pop (on f p)) (λ s h. h.coded) q g e
 
-  module _ {p : ℕ} {e : Depths} {o : Popped} (g : r ≡ Got p e) (l : View.Pops e w o) where
-    pub branch_short : o ≡ Empty → y ≡ underflow_of e → Meets (CodedText x n code m text) (branch f) d w y w
+  module _ {p : ℕ} {e : Depths} {o : Option (Value × Depths)} (g : r ≡ Some (p, e)) (l : View.Pops e w o) where
+    pub branch_short : o ≡ None → y ≡ underflow_of e → Meets (CodedText x n code m text) (branch f) d w y w
     branch_short j z = after_fetch i (λ p. I.pop (on f p)) (λ s h. h.coded) q g (pop_fails (on f p) l j z)
 
-    module _ {v : Value} {c : Depths} {t : Bool} (j : o ≡ Took v c) (u : Truth n m (value_of v) t) (z : InUse code n text m) where
+    module _ {v : Value} {c : Depths} {t : Bool} (j : o ≡ Some (v, c)) (u : Truth n m (value_of v) t) (z : InUse code n text m) where
       after : {b : Bool} → f t ≡ b → Meets (CodedText x n code m text) (I.jump_if b p) c w y w → Meets (CodedText x n code m text) (branch f) d w y w
       after e k = after_fetch i (λ p. I.pop (on f p)) (λ s h. h.coded) q g (after_pop (on f p) l j (after_look (sensed f p v u z e) k))
 
@@ -75,7 +74,7 @@ module _ {H : St.State → Type 0} where
   leaves {d} {w = w} g e = onward (λ s h. out_pop_handler (View.on_stacks d w s) next ∙ ap (out next) (sym (g.state w s))) refl (goes_on e)
 
   -- Halt, and the finish with no frame
-  pub halt_none : {d : Depths} {w : List ℕ} {q : Popped} {x : Stepped} → View.Pops d w q → q ≡ Empty → x ≡ stepped d (Ended (Finished Undefined)) → Meets H I.Halt d w x w
+  pub halt_none : {d : Depths} {w : List ℕ} {q : Option (Value × Depths)} {x : Stepped} → View.Pops d w q → q ≡ None → x ≡ stepped d (Ended (Ok Undefined)) → Meets H I.Halt d w x w
   halt_none {d} {w} f g e = subst (λ (y : Stepped). Meets H I.Halt d w y w) (sym e) (record {
     goes = λ s h.
         out_look (View.on_stacks d w s) (λ s. I.finish s.operands) ∙ ap (λ (o : List M.Value). out (I.finish o) (View.on_stacks d w s)) (rw g at f.state)
@@ -83,7 +82,7 @@ module _ {H : St.State → Type 0} where
     kept = tt;
   })
 
-  pub halt_some : {d e : Depths} {w : List ℕ} {q : Popped} {v : Value} {x : Stepped} → View.Pops d w q → q ≡ Took v e → x ≡ stepped e (Ended (Finished v)) → Meets H I.Halt d w x w
+  pub halt_some : {d e : Depths} {w : List ℕ} {q : Option (Value × Depths)} {v : Value} {x : Stepped} → View.Pops d w q → q ≡ Some (v, e) → x ≡ stepped e (Ended (Ok v)) → Meets H I.Halt d w x w
   unfolding out
   halt_some {d} {w = w} f g e = subst (λ (y : Stepped). Meets H I.Halt d w y w) (sym e) (record {
     goes = λ s h. ap (out I.Halt) ((rw g at f.state) s);
@@ -91,28 +90,26 @@ module _ {H : St.State → Type 0} where
   })
 
   -- an act on the stacks that is not the last
-  module _ {a : A.Act} {p : Program} {d : Depths} {w w₁ : List ℕ} {r : Made} {x : Stepped} (m : View.Makes a d w r w₁) where
-    pub after_made : {e f : Depths} {w' : List ℕ} → r ≡ Made-as-Went e → x ≡ stepped f Went → Meets H p e w₁ x w' → Meets H (make a p) d w x w'
-    after_made {w' = w'} g z n = record {
-      goes = λ s h. subst (λ (o : Out). Tells x.how x.depths w' s o) (sym (m.goes s p ∙ ap (λ (y : Made). View.made_then y p d w₁ s) g)) (n.goes s h);
+  module _ {a : A.Act} {p : Program} {d : Depths} {w w₁ : List ℕ} {r : Result Depths Stop} (m : View.Makes a d w r w₁) where
+    stops : (q : Stop) → r ≡ Err q → Meets H (make a p) d w (stopped_by q d) w₁
+    stops (Failed n) g = record { goes = λ s h. m.goes s p ∙ ap (λ (y : Result Depths Stop). View.made_then y p d w₁ s) g; kept = tt }
+    stops (Refused n) g = record { goes = λ s h. m.goes s p ∙ ap (λ (y : Result Depths Stop). View.made_then y p d w₁ s) g; kept = rw g at m.ready }
+
+    pub after_made : {x : Stepped} {e f : Depths} {w' : List ℕ} → r ≡ Ok e → x ≡ stepped f Went → Meets H p e w₁ x w' → Meets H (make a p) d w x w'
+    after_made {x = x} {w' = w'} g z n = record {
+      goes = λ s h. subst (λ (o : Out). Tells x.how x.depths w' s o) (sym (m.goes s p ∙ ap (λ (y : Result Depths Stop). View.made_then y p d w₁ s) g)) (n.goes s h);
       kept = subst (λ (y : Stepped). KeptOf y.how y.depths w w') (sym z) tt;
     }
 
-    pub made_fails : {n : JsVmError} → r ≡ Made-as-Failed n → x ≡ stepped d (Ended (Failed n)) → Meets H (make a p) d w x w₁
-    made_fails g z = subst (λ (y : Stepped). Meets H (make a p) d w y w₁) (sym z) (record { goes = λ s h. m.goes s p ∙ ap (λ (y : Made). View.made_then y p d w₁ s) g; kept = tt })
-
-    pub made_refused : {q : Space} → r ≡ Made-as-Refused q → x ≡ stepped d (Refused q) → Meets H (make a p) d w x w₁
-    made_refused g z = subst (λ (y : Stepped). Meets H (make a p) d w y w₁) (sym z) (record {
-      goes = λ s h. m.goes s p ∙ ap (λ (y : Made). View.made_then y p d w₁ s) g;
-      kept = rw g at m.ready;
-    })
+    pub made_stops : {x : Stepped} {q : Stop} → r ≡ Err q → x ≡ stopped_by q d → Meets H (make a p) d w x w₁
+    made_stops {q = q} g z = subst (λ (y : Stepped). Meets H (make a p) d w y w₁) (sym z) (stops q g)
 
   -- Throw
-  module _ {d e : Depths} {w : List ℕ} {q : Popped} {v : Value} {x : Stepped} (f : View.Pops d w q) (g : q ≡ Took v e) where
+  module _ {d e : Depths} {w : List ℕ} {q : Option (Value × Depths)} {v : Value} {x : Stepped} (f : View.Pops d w q) (g : q ≡ Some (v, e)) where
     thrown : {p : Program} {w' : List ℕ} → I.throw (value_of v) (View.handlers_of w e.handlers) ≡ p → Meets H p e w x w' → Meets H I.Throw d w x w'
     thrown i m = after_pop (λ v. look λ s. I.throw v s.handlers) f g (after_look (λ s h. i) m)
 
-    pub uncaught : e.handlers ≡ 0 → x ≡ stepped e (Ended (Failed (UncaughtException v))) → Meets H I.Throw d w x w
+    pub uncaught : e.handlers ≡ 0 → x ≡ stepped e (Ended (Err (UncaughtException v))) → Meets H I.Throw d w x w
     uncaught z i =
         let n : View.handlers_of w e.handlers ≡ [] = ap (View.handlers_of w) z ∙ stack_none (λ i. View.handler_at w (handlers_at + 3 * i)) in
         thrown (ap (I.throw (value_of v)) n) (fails i)

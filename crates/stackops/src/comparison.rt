@@ -1,17 +1,20 @@
 //! Comparisons, and the two logical instructions, which pop both operands whatever the first one is.
 ghost use Rattle.std.specs.Prelude.{ℕ, List};
-ghost use Rattle.machine.specs.Instruction.{Eq, StrictEq, NotEq, StrictNotEq, Lt, Gt, LtEq, GtEq, LogicalAnd, LogicalOr, In};
+ghost use Rattle.machine.specs.Instruction.{comparison, In};
 ghost use Rattle.stacks.specs.View.{Ready};
 ghost use Rattle.texts.specs.Sources.{InUse};
 ghost use Rattle.outcome.specs.Meets.{Meets, Any};
 ghost use Rattle.fetch.specs.Running.{Texts};
+ghost use Rattle.stackops.specs.Values.{Equals, Logical};
 
-use crate::arithmetic::{Numbers, pop_numbers};
-use outcome::{Pair, Stepped, pop_two, push_value, underflow};
+use crate::arithmetic::pop_numbers;
+use crate::operators::Comparison;
+use outcome::{Stepped, pop_two, push_value, underflow};
 use stacks::Depths;
 use value::Value;
 
-pub fn eq<'a>(
+/// Eq and NotEq, or StrictEq and StrictNotEq: are the operands equal or not, as `WANTED` has it?
+pub fn equality<'a, const STRICT: bool, const WANTED: bool>(
     d: Depths,
     code: &'a [u8],
     n: usize,
@@ -21,19 +24,21 @@ pub fn eq<'a>(
 ) -> Stepped
     requires ready { Ready d stacks.old }
     requires in_use { InUse code.now n text.now m }
-    ensures { Meets (Texts code.now n text.now m) Eq d stacks.old result stacks.new }
+    ensures { Meets (Texts code.now n text.now m) (Equals STRICT WANTED) d stacks.old result stacks.new }
 {
-    let Pair::Both(a, b, e) = pop_two(d, stacks) else {
+    let Some((a, b, e)) = pop_two(d, stacks) else {
         return underflow(d);
     };
-    push_value(
-        e,
-        stacks,
-        Value::Boolean(convert::abstract_eq(code, n, text, m, a, b)),
-    )
+    let equal = if STRICT {
+        convert::strict_eq(code, n, text, m, a, b)
+    } else {
+        convert::abstract_eq(code, n, text, m, a, b)
+    };
+    push_value(e, stacks, Value::Boolean(equal == WANTED))
 }
 
-pub fn strict_eq<'a>(
+/// Lt, Gt, LtEq and GtEq.
+pub fn compare<'a, O: Comparison>(
     d: Depths,
     code: &'a [u8],
     n: usize,
@@ -43,158 +48,26 @@ pub fn strict_eq<'a>(
 ) -> Stepped
     requires ready { Ready d stacks.old }
     requires in_use { InUse code.now n text.now m }
-    ensures { Meets (Texts code.now n text.now m) StrictEq d stacks.old result stacks.new }
+    ensures { Meets (Texts code.now n text.now m) (comparison O.of) d stacks.old result stacks.new }
 {
-    let Pair::Both(a, b, e) = pop_two(d, stacks) else {
+    let Some((a, b, e)) = pop_numbers(d, code, n, text, m, stacks) else {
         return underflow(d);
     };
-    push_value(
-        e,
-        stacks,
-        Value::Boolean(convert::strict_eq(code, n, text, m, a, b)),
-    )
+    push_value(e, stacks, Value::Boolean(O::apply(a, b)))
 }
 
-pub fn not_eq<'a>(
-    d: Depths,
-    code: &'a [u8],
-    n: usize,
-    text: &'a [u8],
-    m: usize,
-    stacks: &mut [u64],
-) -> Stepped
-    requires ready { Ready d stacks.old }
-    requires in_use { InUse code.now n text.now m }
-    ensures { Meets (Texts code.now n text.now m) NotEq d stacks.old result stacks.new }
-{
-    let Pair::Both(a, b, e) = pop_two(d, stacks) else {
-        return underflow(d);
-    };
-    push_value(
-        e,
-        stacks,
-        Value::Boolean(!convert::abstract_eq(code, n, text, m, a, b)),
-    )
-}
-
-pub fn strict_not_eq<'a>(
-    d: Depths,
-    code: &'a [u8],
-    n: usize,
-    text: &'a [u8],
-    m: usize,
-    stacks: &mut [u64],
-) -> Stepped
-    requires ready { Ready d stacks.old }
-    requires in_use { InUse code.now n text.now m }
-    ensures { Meets (Texts code.now n text.now m) StrictNotEq d stacks.old result stacks.new }
-{
-    let Pair::Both(a, b, e) = pop_two(d, stacks) else {
-        return underflow(d);
-    };
-    push_value(
-        e,
-        stacks,
-        Value::Boolean(!convert::strict_eq(code, n, text, m, a, b)),
-    )
-}
-
-pub fn lt<'a>(
-    d: Depths,
-    code: &'a [u8],
-    n: usize,
-    text: &'a [u8],
-    m: usize,
-    stacks: &mut [u64],
-) -> Stepped
-    requires ready { Ready d stacks.old }
-    requires in_use { InUse code.now n text.now m }
-    ensures { Meets (Texts code.now n text.now m) Lt d stacks.old result stacks.new }
-{
-    let Numbers::Both(a, b, e) = pop_numbers(d, code, n, text, m, stacks) else {
-        return underflow(d);
-    };
-    push_value(e, stacks, Value::Boolean(a.less(b)))
-}
-
-pub fn gt<'a>(
-    d: Depths,
-    code: &'a [u8],
-    n: usize,
-    text: &'a [u8],
-    m: usize,
-    stacks: &mut [u64],
-) -> Stepped
-    requires ready { Ready d stacks.old }
-    requires in_use { InUse code.now n text.now m }
-    ensures { Meets (Texts code.now n text.now m) Gt d stacks.old result stacks.new }
-{
-    let Numbers::Both(a, b, e) = pop_numbers(d, code, n, text, m, stacks) else {
-        return underflow(d);
-    };
-    push_value(e, stacks, Value::Boolean(b.less(a)))
-}
-
-pub fn lt_eq<'a>(
-    d: Depths,
-    code: &'a [u8],
-    n: usize,
-    text: &'a [u8],
-    m: usize,
-    stacks: &mut [u64],
-) -> Stepped
-    requires ready { Ready d stacks.old }
-    requires in_use { InUse code.now n text.now m }
-    ensures { Meets (Texts code.now n text.now m) LtEq d stacks.old result stacks.new }
-{
-    let Numbers::Both(a, b, e) = pop_numbers(d, code, n, text, m, stacks) else {
-        return underflow(d);
-    };
-    push_value(e, stacks, Value::Boolean(a.less_eq(b)))
-}
-
-pub fn gt_eq<'a>(
-    d: Depths,
-    code: &'a [u8],
-    n: usize,
-    text: &'a [u8],
-    m: usize,
-    stacks: &mut [u64],
-) -> Stepped
-    requires ready { Ready d stacks.old }
-    requires in_use { InUse code.now n text.now m }
-    ensures { Meets (Texts code.now n text.now m) GtEq d stacks.old result stacks.new }
-{
-    let Numbers::Both(a, b, e) = pop_numbers(d, code, n, text, m, stacks) else {
-        return underflow(d);
-    };
-    push_value(e, stacks, Value::Boolean(b.less_eq(a)))
-}
-
-pub fn logical_and(d: Depths, n: usize, m: usize, stacks: &mut [u64]) -> Stepped
+/// LogicalAnd and LogicalOr: the newer operand where the truth of the older one is `TRUTH`, else the older one.
+pub fn logical<const TRUTH: bool>(d: Depths, n: usize, m: usize, stacks: &mut [u64]) -> Stepped
     requires { Ready d stacks.old }
-    ensures { (code text : List ℕ) → InUse code n text m → Meets (Texts code n text m) LogicalAnd d stacks.old result stacks.new }
+    ensures { (code text : List ℕ) → InUse code n text m → Meets (Texts code n text m) (Logical TRUTH) d stacks.old result stacks.new }
 {
-    let Pair::Both(a, b, e) = pop_two(d, stacks) else {
+    let Some((a, b, e)) = pop_two(d, stacks) else {
         return underflow(d);
     };
-    if convert::to_boolean(n, m, a) {
+    if convert::to_boolean(n, m, a) == TRUTH {
         return push_value(e, stacks, b);
     }
     push_value(e, stacks, a)
-}
-
-pub fn logical_or(d: Depths, n: usize, m: usize, stacks: &mut [u64]) -> Stepped
-    requires { Ready d stacks.old }
-    ensures { (code text : List ℕ) → InUse code n text m → Meets (Texts code n text m) LogicalOr d stacks.old result stacks.new }
-{
-    let Pair::Both(a, b, e) = pop_two(d, stacks) else {
-        return underflow(d);
-    };
-    if convert::to_boolean(n, m, a) {
-        return push_value(e, stacks, a);
-    }
-    push_value(e, stacks, b)
 }
 
 // In, and Instanceof, which is the same program: false.
@@ -202,7 +75,7 @@ pub fn never(d: Depths, stacks: &mut [u64]) -> Stepped
     requires { Ready d stacks.old }
     ensures { Meets Any In d stacks.old result stacks.new }
 {
-    let Pair::Both(_, _, e) = pop_two(d, stacks) else {
+    let Some((_, _, e)) = pop_two(d, stacks) else {
         return underflow(d);
     };
     push_value(e, stacks, Value::Boolean(false))

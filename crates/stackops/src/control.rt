@@ -1,27 +1,28 @@
 //! Jumps, returns, tries and the end of a run.
 ghost use Rattle.std.specs.Prelude.{List, ℕ, ◌≤◌, length};
-ghost use Rattle.machine.specs.Instruction.{Jump, JumpIfFalse, JumpIfTrue, Return, Throw, EnterTry, LeaveTry, Halt};
+ghost use Rattle.machine.specs.Instruction.{Jump, Return, Throw, EnterTry, LeaveTry, Halt};
 ghost use Rattle.stacks.specs.View.{Ready};
 ghost use Rattle.outcome.specs.Meets.{Meets, Any};
 ghost use Rattle.fetch.specs.Running.{Runs, Coded, CodedText};
+ghost use Rattle.stackops.specs.Control.{JumpIf};
 
-use fetch::{Fetched, Running, cut_short, fetch_word};
-use outcome::{End, Part, Stepped, ended, failed, push_value, settle, underflow, went, with_ip};
-use stacks::{Depths, Made, Popped};
+use fetch::{Running, cut_short, fetch_word};
+use outcome::{Stepped, ended, failed, push_value, settle, stopped, underflow, went};
+use stacks::Depths;
 use value::{JsVmError, Value};
 
 pub fn jump(x: Running, d: Depths, code: &[u8], n: usize) -> Stepped
     requires { n ≤ length code.now }
     ensures { (w : List ℕ) → Runs x d w → Meets (Coded x n code.now) Jump d w result w }
 {
-    let Fetched::Got(p, e) = fetch_word(x, d, code, n) else {
+    let Some((p, e)) = fetch_word(x, d, code, n) else {
         return cut_short(x, d);
     };
-    went(with_ip(e, p))
+    went(e.with_ip(p))
 }
 
-// m bytes of text are in use.
-pub fn jump_if_false(
+/// JumpIfTrue and JumpIfFalse: a jump where the truth of the operand is `TRUTH`. m bytes of text are in use.
+pub fn jump_if<const TRUTH: bool>(
     x: Running,
     d: Depths,
     code: &[u8],
@@ -32,41 +33,16 @@ pub fn jump_if_false(
     requires ready { Ready d stacks.now }
     requires runs { Runs x d stacks.now }
     requires n_in_bounds { n ≤ length code.now }
-    ensures { (text : List ℕ) → m ≤ length text → Meets (CodedText x n code.now m text) JumpIfFalse d stacks.now result stacks.now }
+    ensures { (text : List ℕ) → m ≤ length text → Meets (CodedText x n code.now m text) (JumpIf TRUTH) d stacks.now result stacks.now }
 {
-    let Fetched::Got(p, e) = fetch_word(x, d, code, n) else {
+    let Some((p, e)) = fetch_word(x, d, code, n) else {
         return cut_short(x, d);
     };
-    let Popped::Took(v, f) = stacks::pop(e, stacks) else {
+    let Some((v, f)) = e.pop(stacks) else {
         return underflow(e);
     };
-    if convert::to_boolean(n, m, v) {
-        return went(f);
-    }
-    went(with_ip(f, p))
-}
-
-pub fn jump_if_true(
-    x: Running,
-    d: Depths,
-    code: &[u8],
-    n: usize,
-    m: usize,
-    stacks: &[u64],
-) -> Stepped
-    requires ready { Ready d stacks.now }
-    requires runs { Runs x d stacks.now }
-    requires n_in_bounds { n ≤ length code.now }
-    ensures { (text : List ℕ) → m ≤ length text → Meets (CodedText x n code.now m text) JumpIfTrue d stacks.now result stacks.now }
-{
-    let Fetched::Got(p, e) = fetch_word(x, d, code, n) else {
-        return cut_short(x, d);
-    };
-    let Popped::Took(v, f) = stacks::pop(e, stacks) else {
-        return underflow(e);
-    };
-    if convert::to_boolean(n, m, v) {
-        return went(with_ip(f, p));
+    if convert::to_boolean(n, m, v) == TRUTH {
+        return went(f.with_ip(p));
     }
     went(f)
 }
@@ -75,10 +51,10 @@ pub fn return_value(d: Depths, stacks: &mut [u64]) -> Stepped
     requires { Ready d stacks.old }
     ensures { Meets Any Return d stacks.old result stacks.new }
 {
-    let Popped::Took(v, e) = stacks::pop(d, stacks) else {
+    let Some((v, e)) = d.pop(stacks) else {
         return underflow(d);
     };
-    let f = stacks::pop_frame(e, stacks);
+    let f = e.pop_frame(stacks);
     push_value(f, stacks, v)
 }
 
@@ -86,7 +62,7 @@ pub fn throw(d: Depths, stacks: &mut [u64]) -> Stepped
     requires { Ready d stacks.old }
     ensures { Meets Any Throw d stacks.old result stacks.new }
 {
-    let Popped::Took(v, e) = stacks::pop(d, stacks) else {
+    let Some((v, e)) = d.pop(stacks) else {
         return underflow(d);
     };
     let k = e.handlers;
@@ -94,14 +70,10 @@ pub fn throw(d: Depths, stacks: &mut [u64]) -> Stepped
         return failed(JsVmError::UncaughtException(v), e);
     }
     let h = stacks::read_handler(stacks, stacks::HANDLERS_AT + 3 * (k - 1));
-    let u = stacks::unwind(e, h, stacks);
-    match stacks::push(u, stacks, v) {
-        Made::Went(f) => went(with_ip(f, h.catch as usize)),
-        Made::Failed(q) => failed(q, u),
-        Made::Refused(q) => Stepped {
-            depths: u,
-            how: Part::Refused(q),
-        },
+    let u = e.unwind(h, stacks);
+    match u.push(stacks, v) {
+        Ok(f) => went(f.with_ip(h.catch as usize)),
+        Err(s) => stopped(s, u),
     }
 }
 
@@ -111,16 +83,16 @@ pub fn enter_try(x: Running, d: Depths, code: &[u8], n: usize, stacks: &mut [u64
     requires n_in_bounds { n ≤ length code.now }
     ensures { Meets (Coded x n code.now) EnterTry d stacks.old result stacks.new }
 {
-    let Fetched::Got(p, e) = fetch_word(x, d, code, n) else {
+    let Some((p, e)) = fetch_word(x, d, code, n) else {
         return cut_short(x, d);
     };
-    settle(stacks::push_handler(e, stacks, p as u64), e)
+    settle(e.push_handler(stacks, p as u64), e)
 }
 
 pub fn leave_try(d: Depths) -> Stepped
     ensures { (w : List ℕ) → Meets Any LeaveTry d w result w }
 {
-    went(stacks::pop_handler(d))
+    went(d.pop_handler())
 }
 
 // Also the step that finds no frame.
@@ -128,8 +100,8 @@ pub fn halt(d: Depths, stacks: &[u64]) -> Stepped
     requires { Ready d stacks.now }
     ensures { Meets Any Halt d stacks.now result stacks.now }
 {
-    let Popped::Took(v, e) = stacks::pop(d, stacks) else {
-        return ended(End::Finished(Value::Undefined), d);
+    let Some((v, e)) = d.pop(stacks) else {
+        return ended(Ok(Value::Undefined), d);
     };
-    ended(End::Finished(v), e)
+    ended(Ok(v), e)
 }

@@ -5,3 +5,4 @@ pub mod arithmetic;
 pub mod comparison;
 pub mod control;
 pub mod locals;
+pub mod operators;

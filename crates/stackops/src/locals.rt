@@ -5,9 +5,9 @@ ghost use Rattle.stacks.specs.View.{Ready};
 ghost use Rattle.outcome.specs.Meets.{Meets, Any};
 ghost use Rattle.fetch.specs.Running.{Runs, Coded};
 
-use fetch::{Fetched, Running, cut_short, fetch_word};
+use fetch::{Running, cut_short, fetch_word};
 use outcome::{Stepped, push_value, settle, underflow, went};
-use stacks::{Depths, Popped};
+use stacks::Depths;
 use value::Value;
 
 pub fn load_local(x: Running, d: Depths, code: &[u8], n: usize, stacks: &mut [u64]) -> Stepped
@@ -16,10 +16,10 @@ pub fn load_local(x: Running, d: Depths, code: &[u8], n: usize, stacks: &mut [u6
     requires n_in_bounds { n ≤ length code.now }
     ensures { Meets (Coded x n code.now) LoadLocal d stacks.old result stacks.new }
 {
-    let Fetched::Got(i, e) = fetch_word(x, d, code, n) else {
+    let Some((i, e)) = fetch_word(x, d, code, n) else {
         return cut_short(x, d);
     };
-    let v = stacks::read_slot(e, stacks, i);
+    let v = e.read_slot(stacks, i);
     push_value(e, stacks, v)
 }
 
@@ -29,13 +29,13 @@ pub fn store_local(x: Running, d: Depths, code: &[u8], n: usize, stacks: &mut [u
     requires n_in_bounds { n ≤ length code.now }
     ensures { Meets (Coded x n code.now) StoreLocal d stacks.old result stacks.new }
 {
-    let Fetched::Got(i, e) = fetch_word(x, d, code, n) else {
+    let Some((i, e)) = fetch_word(x, d, code, n) else {
         return cut_short(x, d);
     };
-    let Popped::Took(v, f) = stacks::pop(e, stacks) else {
+    let Some((v, f)) = e.pop(stacks) else {
         return underflow(e);
     };
-    settle(stacks::store(f, stacks, i, v), f)
+    settle(f.store(stacks, i, v), f)
 }
 
 pub fn get_this(d: Depths, stacks: &mut [u64]) -> Stepped
@@ -49,7 +49,7 @@ pub fn pop(d: Depths, stacks: &[u64]) -> Stepped
     requires { Ready d stacks.now }
     ensures { Meets Any Pop d stacks.now result stacks.now }
 {
-    let Popped::Took(_, e) = stacks::pop(d, stacks) else {
+    let Some((_, e)) = d.pop(stacks) else {
         return underflow(d);
     };
     went(e)
@@ -59,6 +59,6 @@ pub fn dup(d: Depths, stacks: &mut [u64]) -> Stepped
     requires { Ready d stacks.old }
     ensures { Meets Any Dup d stacks.old result stacks.new }
 {
-    let v = stacks::top(d, stacks);
+    let v = d.top(stacks);
     push_value(d, stacks, v)
 }

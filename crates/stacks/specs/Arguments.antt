@@ -1,6 +1,6 @@
 -- A called function's frame: its arguments, taken from the operands, and Undefined for what is missing. Assumes nothing.
 use Rattle.stacks.specs.Layout.{slot_limit, slots_at, frames_at, handlers_at}
-use Rattle.std.specs.Prelude.{ℕ, zero, suc, ◌+◌, ◌-◌, ◌*◌, ◌≤◌, ◌<◌, min, max, List, [], ◌∷◌, ◌++◌, ◌≡◌, refl, length, replicate}
+use Rattle.std.specs.Prelude.{ℕ, zero, suc, ◌+◌, ◌-◌, ◌*◌, ◌≤◌, ◌<◌, min, max, List, [], ◌∷◌, ◌++◌, ◌≡◌, refl, length, replicate, Ok}
 use Rattle.std.proofs.Common.{arith, zero-add, suc-add, append_assoc, sym, ap, ap₂, ◌∙◌, length-append}
 use Rattle.std.proofs.Math.Decide.{dec_lt}
 use Rattle.std.proofs.lemmas.List.{length-replicate, replicate-append-replicate}
@@ -9,39 +9,28 @@ use Rattle.machine.specs.Act as A
 use Rattle.machine.specs.Program.{make}
 use Rattle.machine.specs.Instruction as I
 use Rattle.machine.specs.Out.{out}
-use Rattle.value.specs.declared.Value.{Value}
-use Rattle.value.specs.Words.{value_of, value_at, set_value, value_same, value_reads, value_apart}
-use Rattle.value.specs.Arena.{Apart, apart_below, apart_above}
+use Rattle.value.specs.Words.{value_at, value_reads, Holds}
+use Rattle.value.specs.Arena.{apart_below, apart_above}
 use Rattle.value.specs.Lists.{row_of, row_append, row_ext}
 use Rattle.stacks.specs.declared.Depths.{Depths}
-use Rattle.stacks.specs.declared.Made.TheVariants.{Went}
 use Rattle.stacks.specs.View
 use Rattle.stacks.specs.Laws.{operands_kept, slots_kept, frames_kept, handlers_kept}
 use Rattle.stacks.specs.Slots.{undefined_rows}
 
 -- one value after the other
-pub copy_none : (w : List ℕ) (from to : ℕ) → View.Copies w w from to 0
-copy_none w from to = record { values = λ i h. absurd (omega arith); apart = record { at = λ j h. refl } }
-
-pub copy_more : (w₀ w w' : List ℕ) (from to i : ℕ) (v : Value) → 3 * (from + i) + 3 ≤ slots_at → slots_at + 3 * (to + i) + 2 < length w
-    → View.Copies w₀ w from to i → value_of v ≡ value_at w (3 * (from + i)) → w' ≡ set_value w (slots_at + 3 * (to + i)) v → View.Copies w₀ w' from to (i + 1)
-copy_more w₀ w w' from to i v b l c r e = rw e (record {
-  values = λ j h. go j h (dec_lt j i);
-  apart = record { at = λ j n. written.at j (λ x y. n (omega arith) (omega arith)) ∙ c.apart.at j (λ x y. n x (omega arith)) };
-})
+pub copy_more : (w₀ w w' : List ℕ) (from to i : ℕ) → 3 * (from + i) + 3 ≤ slots_at → View.Copies w₀ w from to i
+    → Holds w w' (slots_at + 3 * (to + i)) (value_at w (3 * (from + i))) → View.Copies w₀ w' from to (i + 1)
+copy_more w₀ w w' from to i b c h = record {
+  values = λ j q. go j q (dec_lt j i);
+  apart = record { at = λ j n. h.apart.at j (λ x y. n (omega arith) (omega arith)) ∙ c.apart.at j (λ x y. n x (omega arith)) };
+}
   where
-    k : ℕ
-    k = slots_at + 3 * (to + i)
-
-    written : Apart w (set_value w (slots_at + 3 * (to + i)) v) (slots_at + 3 * (to + i)) (slots_at + 3 * (to + i) + 3)
-    written = value_apart w (slots_at + 3 * (to + i)) v
-
-    go : (j : ℕ) → j < i + 1 → Dec (j < i) → value_at (set_value w (slots_at + 3 * (to + i)) v) (slots_at + 3 * (to + j)) ≡ value_at w₀ (3 * (from + j))
-    go j h (yes q) = value_reads w (set_value w (slots_at + 3 * (to + i)) v) (slots_at + 3 * (to + j)) (λ m x y. written.at m (λ s t. omega arith)) ∙ c.values j q
-    go j h (no q) =
-        let z : j ≡ i = omega (arith, q) in
+    go : (j : ℕ) → j < i + 1 → Dec (j < i) → value_at w' (slots_at + 3 * (to + j)) ≡ value_at w₀ (3 * (from + j))
+    go j q (yes l) = value_reads w w' (slots_at + 3 * (to + j)) (λ m x y. h.apart.at m (λ s t. omega arith)) ∙ c.values j l
+    go j q (no l) =
+        let z : j ≡ i = omega (arith, l) in
         let own : value_at w (3 * (from + i)) ≡ value_at w₀ (3 * (from + i)) = value_reads w₀ w (3 * (from + i)) (λ m x y. c.apart.at m (λ s t. omega arith)) in
-        rw z (value_same w (slots_at + 3 * (to + i)) v l ∙ r ∙ own)
+        rw z (h.value ∙ own)
 
 -- the first p of a values, with Undefined where there are fewer
 exactly_none : (r : ℕ) → I.exactly r [] ≡ replicate r M.undefined
@@ -112,8 +101,8 @@ passes w w₁ w₂ from argc n params locals m e l c f =
 
 -- a frame pushed after its slots were laid above those that stand
 pub frame_called : (d : Depths) (w w₁ w₂ : List ℕ) (r : Depths) (image template from argc params locals : ℕ) → View.Ready d w
-    → View.Passes w w₁ from argc d.slots params locals → View.Makes (A.push_frame image template (View.above w₁ d.slots (max params locals))) d w₁ (Went r) w₂
-    → View.Makes (A.push_frame image template (View.called w from argc params locals)) d w (Went r) w₂
+    → View.Passes w w₁ from argc d.slots params locals → View.Makes (A.push_frame image template (View.above w₁ d.slots (max params locals))) d w₁ (Ok r) w₂
+    → View.Makes (A.push_frame image template (View.called w from argc params locals)) d w (Ok r) w₂
 frame_called d w w₁ w₂ r image template from argc params locals good p m =
     let o = operands_kept w w₁ d.operands (apart_below p.apart 0 (0 + 3 * d.operands) (omega (arith, good.operands))) in
     let l = slots_kept w w₁ d.slots (apart_below p.apart slots_at (slots_at + 3 * d.slots) (omega arith)) in

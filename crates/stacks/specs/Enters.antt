@@ -1,6 +1,6 @@
 -- A frame more. Assumes nothing.
 use Rattle.stacks.specs.Layout.{slot_limit, frame_limit, slots_at, frames_at, handlers_at}
-use Rattle.std.specs.Prelude.{ℕ, ◌+◌, ◌-◌, ◌*◌, ◌≤◌, ◌<◌, List, [], ◌∷◌, ◌++◌, ◌≡◌, refl, length}
+use Rattle.std.specs.Prelude.{ℕ, ◌+◌, ◌-◌, ◌*◌, ◌≤◌, ◌<◌, List, [], ◌∷◌, ◌++◌, ◌≡◌, refl, length, Ok, Err}
 use Rattle.std.proofs.Common.{arith, sym, ap, ◌∙◌, le-leb}
 use Rattle.std.proofs.Math.ListN.{get_or, set, length-set}
 use Rattle.std.proofs.Math.Seq.{get_or-set_same, get_or-set_other}
@@ -14,10 +14,10 @@ use Rattle.value.specs.Arena.{Apart, apart_below, apart_above, set3, set3_apart,
 use Rattle.value.specs.Lists.{stack_none, stack_pop, stack_push, stack_length, row_append, row_length, row_none}
 use Rattle.stacks.specs.declared.Depths.{Depths}
 use Rattle.stacks.specs.declared.Frame.{Frame}
-use Rattle.stacks.specs.declared.Made.TheVariants.{Went, Refused}
 use Rattle.value.specs.declared.Space.TheVariants.{Slots, Frames}
 use Rattle.stacks.specs.View
 use Rattle.stacks.specs.Laws.{operands_kept, slots_kept, frames_kept, handlers_kept, top_length}
+use Rattle.value.specs.declared.Stop.TheVariants.{Refused}
 
 -- the place of the newest frame
 module _ (w : List ℕ) (k p : ℕ) (z : k ≡ 0 → ⊥) (l : frames_at + 5 * k ≤ length w) where
@@ -78,13 +78,13 @@ length_frame w k f = simp length-set
 
 -- A frame that does not fit, whatever its slots are.
 module _ (d : Depths) (w : List ℕ) (good : View.Ready d w) (image template : ℕ) (vs : List M.Value) where
-  pub frames_full : frame_limit ≤ d.frames → View.Makes (A.push_frame image template vs) d w (Refused Frames) w
+  pub frames_full : frame_limit ≤ d.frames → View.Makes (A.push_frame image template vs) d w (Err (Refused Frames)) w
   frames_full h = record {
     goes = λ s p. out_refused (View.on_stacks d w s) (A.push_frame image template vs) p St.frame_store refl (Asked.no (rw (top_length, stack_length, lt-leb (d.frames + 1) frame_limit (omega arith))));
     ready = refl;
   }
 
-  pub slots_full : d.frames < frame_limit → slot_limit - d.slots < length vs → View.Makes (A.push_frame image template vs) d w (Refused Slots) w
+  pub slots_full : d.frames < frame_limit → slot_limit - d.slots < length vs → View.Makes (A.push_frame image template vs) d w (Err (Refused Slots)) w
   slots_full h g = record {
     goes = λ s p. out_refused (View.on_stacks d w s) (A.push_frame image template vs) p St.slot_store refl
         (Asked.yes (rw (top_length, stack_length, le-leb (d.frames + 1) frame_limit (omega arith))) (Asked.no (rw (row_length, lt-leb (d.slots + length vs) slot_limit (omega (arith, good.slots))))));
@@ -100,7 +100,7 @@ module _ (d : Depths) (w : List ℕ) (good : View.Ready d w) (image template cou
   new_frame = record { image = image; template = template; ip = 0; base = d.slots; count = count }
 
   pub frame_added : (w₁ w₂ : List ℕ) → d.frames < frame_limit → count ≤ slot_limit - d.slots → View.Saves d w w₁ → length w₁ ≡ length w → w₂ ≡ View.set_frame w₁ (frames_at + 5 * d.frames) new_frame
-      → View.Makes (A.push_frame image template (View.above w d.slots count)) d w (Went entered) w₂
+      → View.Makes (A.push_frame image template (View.above w d.slots count)) d w (Ok entered) w₂
   frame_added w₁ w₂ h g a l e =
       let k = d.frames in
       let n = d.slots in
@@ -124,6 +124,6 @@ module _ (d : Depths) (w : List ℕ) (good : View.Ready d w) (image template cou
       }
 
 -- a frame without slots
-pub frame_bare : (d : Depths) (w w' : List ℕ) (r : Depths) (image template : ℕ) → View.Makes (A.push_frame image template (View.above w d.slots 0)) d w (Went r) w'
-    → View.Makes (A.push_frame image template []) d w (Went r) w'
+pub frame_bare : (d : Depths) (w w' : List ℕ) (r : Depths) (image template : ℕ) → View.Makes (A.push_frame image template (View.above w d.slots 0)) d w (Ok r) w'
+    → View.Makes (A.push_frame image template []) d w (Ok r) w'
 frame_bare d w w' r image template m = rw (row_none (λ i. value_at w (slots_at + 3 * (d.slots + i)))) at m

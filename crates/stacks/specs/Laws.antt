@@ -1,7 +1,7 @@
 -- What a write into one of the stacks does to the state. Assumes nothing.
 use Rattle.stacks.specs.Layout.{handler_limit, slots_at, frames_at, handlers_at}
 use Rattle.machine.specs.State.{operand_limit}
-use Rattle.std.specs.Prelude.{ℕ, ◌+◌, ◌-◌, ◌*◌, ◌≤◌, ◌<◌, List, [], ◌∷◌, ◌≡◌, refl, drop}
+use Rattle.std.specs.Prelude.{ℕ, zero, suc, ◌+◌, ◌-◌, ◌*◌, ◌≤◌, ◌<◌, List, [], ◌∷◌, ◌≡◌, refl, drop, Some, None, Result, Ok, Err}
 use Rattle.std.proofs.Common.{arith, sym, ap, ◌∙◌, length-set, lt-ltb, le-ltb, le-leb}
 use Rattle.std.proofs.Math.Option.{none}
 use Rattle.std.proofs.Math.ListN.{length}
@@ -17,12 +17,12 @@ use Rattle.value.specs.declared.Value.{Value}
 use Rattle.value.specs.declared.JsVmError.TheVariants.{StackOverflow, NoCallFrame}
 use Rattle.value.specs.Words.{value_of, value_at, set_value, value_reads, length_set_value, Holds, holds_set}
 use Rattle.value.specs.Arena.{Same, Apart, apart_below, apart_above, stack_kept, rows_kept, set3, set3_apart, set3_first, set3_second, set3_third}
-use Rattle.value.specs.Lists.{stack_none, stack_push, stack_pop, stack_length, stack_drop}
+use Rattle.value.specs.Lists.{stack_none, stack_suc, stack_push, stack_pop, stack_length, stack_drop}
 use Rattle.stacks.specs.declared.Depths.{Depths}
-use Rattle.stacks.specs.declared.Made.TheVariants.{Went, Failed, Refused}
-use Rattle.stacks.specs.declared.Popped.TheVariants.{Took, Empty}
 use Rattle.value.specs.declared.Space.TheVariants.{Handlers}
 use Rattle.stacks.specs.View
+use Rattle.value.specs.declared.Stop.{Stop}
+use Rattle.value.specs.declared.Stop.TheVariants.{Failed, Refused}
 
 -- a row is read from its own words
 pub frame_reads : (w w' : List ℕ) (k : ℕ) → Same w w' k (k + 5) → View.frame_at w' k ≡ View.frame_at w k
@@ -59,6 +59,11 @@ with_handlers n d = record { operands = d.operands; slots = d.slots; frames = d.
 
 -- Operands
 
+-- one operand more, if there is room for it
+abbrev pub Grows : Depths → Result Depths Stop → Type 0
+Grows d (Ok e) = (d.operands < operand_limit) × (e ≡ with_operands (d.operands + 1) d)
+Grows d (Err s) = (operand_limit ≤ d.operands) × (s ≡ Failed StackOverflow)
+
 module _ (d : Depths) (w : List ℕ) (good : View.Ready d w) where
   pushed : (v : M.Value) (w' : List ℕ) (s : St.State) → d.operands < operand_limit → Holds w w' (3 * d.operands) v
       → View.on_stacks (with_operands (d.operands + 1) d) w' s ≡ A.apply (A.push v) (View.on_stacks d w s)
@@ -75,7 +80,7 @@ module _ (d : Depths) (w : List ℕ) (good : View.Ready d w) where
 
   -- the contract of push, each way: v stands on top now
   pub push_holds : (v : M.Value) (w' : List ℕ) → d.operands < operand_limit → Holds w w' (3 * d.operands) v → length w' ≡ length w
-      → View.Makes (A.push v) d w (Went (with_operands (d.operands + 1) d)) w'
+      → View.Makes (A.push v) d w (Ok (with_operands (d.operands + 1) d)) w'
   push_holds v w' h e l = record {
     goes = λ s p. out_make (View.on_stacks d w s) (A.push v) p (rw (stack_length, lt-ltb d.operands operand_limit h)) Asked.all
         ∙ ap (out p) (sym (pushed v w' s h e));
@@ -83,12 +88,12 @@ module _ (d : Depths) (w : List ℕ) (good : View.Ready d w) where
   }
 
   pub push_went : (v : Value) (w' : List ℕ) → d.operands < operand_limit → w' ≡ set_value w (3 * d.operands) v
-      → View.Makes (A.push (value_of v)) d w (Went (with_operands (d.operands + 1) d)) w'
+      → View.Makes (A.push (value_of v)) d w (Ok (with_operands (d.operands + 1) d)) w'
   push_went v w' h e =
       let q : 3 * d.operands + 2 < length w = omega (arith, good.size) in
       push_holds (value_of v) w' h (rw e (holds_set w (3 * d.operands) v q)) (rw e (length_set_value w (3 * d.operands) v))
 
-  pub push_full : (v : M.Value) → operand_limit ≤ d.operands → View.Makes (A.push v) d w (Failed StackOverflow) w
+  pub push_full : (v : M.Value) → operand_limit ≤ d.operands → View.Makes (A.push v) d w (Err (Failed StackOverflow)) w
   push_full v h = record {
     goes = λ s p. out_error (View.on_stacks d w s) (A.push v) p stack_overflow (rw (stack_length, le-ltb d.operands operand_limit h));
     ready = refl;
@@ -105,10 +110,10 @@ module _ (d : Depths) (w : List ℕ) (good : View.Ready d w) where
   pub pop_ready : View.Ready (with_operands (d.operands - 1) d) w
   pop_ready = record { operands = omega (arith, good.operands); slots = good.slots; frames = good.frames; handlers = good.handlers; size = good.size }
 
-  pub pop_took : (v : Value) → (d.operands ≡ 0 → ⊥) → value_of v ≡ value_at w (3 * (d.operands - 1)) → View.Pops d w (Took v (with_operands (d.operands - 1) d))
+  pub pop_took : (v : Value) → (d.operands ≡ 0 → ⊥) → value_of v ≡ value_at w (3 * (d.operands - 1)) → View.Pops d w (Some (v, (with_operands (d.operands - 1) d)))
   pop_took v h e = record { state = pop_state (value_of v) h e; ready = pop_ready }
 
-  pub pop_none : d.operands ≡ 0 → View.Pops d w Empty
+  pub pop_none : d.operands ≡ 0 → View.Pops d w None
   pop_none e = record { state = rw e (stack_none (λ i. value_at w (0 + 3 * i))); ready = tt }
 
   pub top_some : (v : Value) → (d.operands ≡ 0 → ⊥) → value_of v ≡ value_at w (3 * (d.operands - 1)) → value_of v ≡ View.top_of d w
@@ -149,37 +154,40 @@ module _ (d : Depths) (w : List ℕ) (good : View.Ready d w) where
   none_left : (d.frames ≡ 0 → ⊥) → (p : ℕ) → A.or_else no_call_frame (View.frames_of w d.frames p) ≡ none
   none_left h p = rw (stack_pop (λ i. View.frame_at w (frames_at + 5 * i)) d.frames h)
 
-  pub handler_none : (catch : ℕ) → d.frames ≡ 0 → View.Makes (A.push_handler catch) d w (Failed NoCallFrame) w
+  pub handler_none : (catch : ℕ) → d.frames ≡ 0 → View.Makes (A.push_handler catch) d w (Err (Failed NoCallFrame)) w
   handler_none catch h = record {
     goes = λ s p. out_error (View.on_stacks d w s) (A.push_handler catch) p no_call_frame (rw (h, stack_none (λ i. View.frame_at w (frames_at + 5 * i))));
     ready = refl;
   }
 
-  pub handler_full : (catch : ℕ) → (d.frames ≡ 0 → ⊥) → handler_limit ≤ d.handlers → View.Makes (A.push_handler catch) d w (Refused Handlers) w
+  pub handler_full : (catch : ℕ) → (d.frames ≡ 0 → ⊥) → handler_limit ≤ d.handlers → View.Makes (A.push_handler catch) d w (Err (Refused Handlers)) w
   handler_full catch f h = record {
     goes = λ s p. out_refused (View.on_stacks d w s) (A.push_handler catch) p St.handler_store (none_left f d.ip) (Asked.no (rw (stack_length, lt-leb (d.handlers + 1) handler_limit (omega arith))));
     ready = refl;
   }
 
   pub handler_went : (catch : ℕ) (w' : List ℕ) → (d.frames ≡ 0 → ⊥) → d.handlers < handler_limit → w' ≡ handled catch
-      → View.Makes (A.push_handler catch) d w (Went (with_handlers (d.handlers + 1) d)) w'
+      → View.Makes (A.push_handler catch) d w (Ok (with_handlers (d.handlers + 1) d)) w'
   handler_went catch w' f h e = record {
     goes = λ s p. out_make (View.on_stacks d w s) (A.push_handler catch) p (none_left f d.ip) (Asked.yes (rw (stack_length, le-leb (d.handlers + 1) handler_limit (omega arith))) Asked.all)
         ∙ ap (out p) (sym (ap (λ (x : List ℕ). View.on_stacks (with_handlers (d.handlers + 1) d) x s) e ∙ with_handler catch s h));
     ready = record { operands = good.operands; slots = good.slots; frames = good.frames; handlers = omega arith; size = rw e (simp length-set good.size) };
   }
 
-pub no_handler : (d : Depths) → d.handlers ≡ 0 → View.PopsHandler d d
-no_handler d h = record {
-  state = λ w s. rw (h, stack_none (λ i. View.handler_at w (handlers_at + 3 * i)));
-  ready = λ w r. r;
+rest_handlers : (w : List ℕ) (n : ℕ) → View.handlers_of w (n - 1) ≡ A.rest (View.handlers_of w n)
+rest_handlers w zero = rw (stack_none (λ i. View.handler_at w (handlers_at + 3 * i)))
+rest_handlers w (suc n) =
+    let e : suc n - 1 ≡ n = omega arith in
+    rw (stack_suc (λ i. View.handler_at w (handlers_at + 3 * i)) n) (ap (View.handlers_of w) e)
+
+pub handler_off : (d : Depths) (n : ℕ) → n ≡ d.handlers - 1 → View.PopsHandler d (with_handlers n d)
+handler_off d n e = record {
+  state = λ w s. ap (λ (x : List St.Handler). Fi.set_handlers x (View.on_stacks d w s)) (ap (View.handlers_of w) e ∙ rest_handlers w d.handlers);
+  ready = λ w r. record { operands = r.operands; slots = r.slots; frames = r.frames; handlers = omega (arith, r.handlers); size = r.size };
 }
 
 pub one_handler : (d : Depths) → (d.handlers ≡ 0 → ⊥) → View.PopsHandler d (with_handlers (d.handlers - 1) d)
-one_handler d h = record {
-  state = λ w s. rw (stack_pop (λ i. View.handler_at w (handlers_at + 3 * i)) d.handlers h);
-  ready = λ w r. record { operands = r.operands; slots = r.slots; frames = r.frames; handlers = omega (arith, r.handlers); size = r.size };
-}
+one_handler d h = handler_off d (d.handlers - 1) refl
 
 abbrev pub with_ip : ℕ → Depths → Depths
 with_ip p d = record { operands = d.operands; slots = d.slots; frames = d.frames; handlers = d.handlers; ip = p }

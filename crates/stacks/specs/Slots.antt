@@ -1,6 +1,6 @@
 -- A value into a slot. Assumes nothing.
 use Rattle.stacks.specs.Layout.{slot_limit, slots_at, frames_at, handlers_at, stack_words}
-use Rattle.std.specs.Prelude.{ℕ, zero, suc, ◌+◌, ◌-◌, ◌*◌, ◌≤◌, ◌<◌, List, [], ◌∷◌, ◌++◌, ◌≡◌, refl, length, get_or, set, replicate}
+use Rattle.std.specs.Prelude.{ℕ, zero, suc, ◌+◌, ◌-◌, ◌*◌, ◌≤◌, ◌<◌, List, [], ◌∷◌, ◌++◌, ◌≡◌, refl, length, get_or, set, replicate, Ok, Err}
 use Rattle.std.proofs.Common.{arith, sym, subst, ◌∙◌, get_or-set_other, le-leb}
 use Rattle.std.proofs.Math.Decide.{dec_lt}
 use Rattle.std.proofs.Math.Path.{ap}
@@ -18,10 +18,10 @@ use Rattle.value.specs.Arena.{Same, Apart, apart_below, apart_above}
 use Rattle.value.specs.Lists.{row_of, stack_none, stack_pop, row_append, row_ext, row_length}
 use Rattle.stacks.specs.declared.Depths.{Depths}
 use Rattle.stacks.specs.declared.Frame.{Frame}
-use Rattle.stacks.specs.declared.Made.TheVariants.{Went, Refused}
 use Rattle.value.specs.declared.Space.TheVariants.{Slots}
 use Rattle.stacks.specs.View
 use Rattle.stacks.specs.Laws.{operands_kept, slots_kept, frames_kept, handlers_kept, frame_reads}
+use Rattle.value.specs.declared.Stop.TheVariants.{Refused}
 
 pub fill_none : (w : List ℕ) (i : ℕ) → View.Filled w w i i
 fill_none w i = record { values = λ j a b. absurd (omega arith); apart = record { at = λ j h. refl } }
@@ -52,9 +52,6 @@ filled_slots {w} {w'} {from} {to} h f =
     ap (View.slots_of w') (sym e) ∙ row_append from (to - from) (λ i. value_at w' (slots_at + 3 * i))
     ∙ ap (λ (x : List M.Value). x ++ row_of (to - from) (λ i. value_at w' (slots_at + 3 * (from + i)))) (slots_kept w w' from (apart_below f.apart slots_at (slots_at + 3 * from) (omega arith)))
     ∙ ap (λ (x : List M.Value). View.slots_of w from ++ x) (undefined_rows (to - from) (λ i. value_at w' (slots_at + 3 * (from + i))) (λ i l. f.values (from + i) (omega arith) (omega arith)))
-
-pub fill_all : {w w' : List ℕ} {from i to : ℕ} → i ≡ to → View.Filled w w' from i → View.Filled w w' from to
-fill_all {w} {w'} {from} e f = rw e at f
 
 row_set : {A : Type 0} (n j : ℕ) (f g : ℕ → A) (x : A) → j < n → g j ≡ x → ((i : ℕ) → (i ≡ j → ⊥) → g i ≡ f i) → row_of n g ≡ set (row_of n f) j x
 unfolding row_of
@@ -102,7 +99,7 @@ module _ (w : List ℕ) (k c m : ℕ) (z : k ≡ 0 → ⊥) (l : frames_at + 5 *
       rw (stack_pop (λ i. View.frame_at w' (frames_at + 5 * i)) k z, row_grown, t)
 
 module _ (d : Depths) (w : List ℕ) (good : View.Ready d w) (i : ℕ) (v : M.Value) where
-  pub store_none : d.frames ≡ 0 → View.Makes (A.store i v) d w (Went d) w
+  pub store_none : d.frames ≡ 0 → View.Makes (A.store i v) d w (Ok d) w
   store_none e =
       let fs : View.frames_of w d.frames d.ip ≡ [] = rw (e, stack_none (λ i. View.frame_at w (frames_at + 5 * i))) in
       record {
@@ -118,7 +115,7 @@ module _ (d : Depths) (w : List ℕ) (good : View.Ready d w) (i : ℕ) (v : M.Va
     lacks : A.lacking_top i (View.frames_of w d.frames d.ip) ≡ more
     lacks = ap (A.lacking_top i) top ∙ sym m
 
-    pub store_full : slot_limit - d.slots < more → View.Makes (A.store i v) d w (Refused Slots) w
+    pub store_full : slot_limit - d.slots < more → View.Makes (A.store i v) d w (Err (Refused Slots)) w
     store_full h = record {
       goes = λ s p. out_refused (View.on_stacks d w s) (A.store i v) p St.slot_store refl (Asked.no (rw (row_length, lacks) (lt-leb (d.slots + more) slot_limit (omega (arith, good.slots)))));
       ready = refl;
@@ -126,7 +123,7 @@ module _ (d : Depths) (w : List ℕ) (good : View.Ready d w) (i : ℕ) (v : M.Va
 
     pub store_went : (w₁ w₂ w₃ : List ℕ) → more ≤ slot_limit - d.slots → View.Filled w w₁ d.slots (d.slots + more) → length w₁ ≡ length w
         → w₂ ≡ set w₁ (frames_at + 5 * (d.frames - 1) + 4) (f.count + more) → View.Puts w₂ w₃ (d.slots + more) (f.base + i) v → length w₃ ≡ length w
-        → View.Makes (A.store i v) d w (Went (with_slots (d.slots + more) d)) w₃
+        → View.Makes (A.store i v) d w (Ok (with_slots (d.slots + more) d)) w₃
     store_went w₁ w₂ w₃ h a₁ l₁ e₂ a₃ l₃ =
         let k = d.frames in
         let n = d.slots in
@@ -160,13 +157,13 @@ module _ (d : Depths) (w : List ℕ) (good : View.Ready d w) (i : ℕ) (v : M.Va
     unfolding View.frame_at
     has_count = ap (λ (x : St.Frame). x.count) e
 
-    pub store_holds : (w' : List ℕ) → i < f.count → f.base + i < d.slots → View.Puts w w' d.slots (f.base + i) v → length w' ≡ length w → View.Makes (A.store i v) d w (Went d) w'
+    pub store_holds : (w' : List ℕ) → i < f.count → f.base + i < d.slots → View.Puts w w' d.slots (f.base + i) v → length w' ≡ length w → View.Makes (A.store i v) d w (Ok d) w'
     store_holds w' h b p l =
         let at = frames_at + 5 * (d.frames - 1) + 4 in
         let z : more ≡ 0 = omega arith in
         let n : d.slots + more ≡ d.slots = omega (arith, z) in
         let c : f.count + more ≡ get_or w at 0 = omega (arith, z, has_count) in
         let same : w ≡ set w at (f.count + more) = sym (ap (set w at) c ∙ set-get_or w at 0) in
-        subst (λ (y : ℕ). View.Makes (A.store i v) d w (Went (with_slots y d)) w') n
+        subst (λ (y : ℕ). View.Makes (A.store i v) d w (Ok (with_slots y d)) w') n
         (store_went w w w' (omega (arith, z)) (subst (λ (y : ℕ). View.Filled w w d.slots y) (sym n) (fill_none w d.slots)) refl same
         (subst (λ (y : ℕ). View.Puts w w' y (f.base + i) v) (sym n) p) l)

@@ -3,7 +3,7 @@
 use Rattle.stacks.specs.Layout.{slot_limit, frame_limit, handler_limit, slots_at, frames_at, handlers_at, stack_words}
 use Rattle.machine.specs.State.{operand_limit}
 use Rattle.machine.specs.Basic.{lowest}
-use Rattle.std.specs.Prelude.{ℕ, ◌+◌, ◌-◌, ◌*◌, ◌≤◌, ◌<◌, max, Bool, false, List, [], ◌∷◌, ◌++◌, ◌≡◌, ltb, length, get_or, set, replicate}
+use Rattle.std.specs.Prelude.{ℕ, ◌+◌, ◌-◌, ◌*◌, ◌≤◌, ◌<◌, max, Bool, false, List, [], ◌∷◌, ◌++◌, ◌≡◌, ltb, length, get_or, set, replicate, Option, Some, None, Result, Ok, Err}
 use Rattle.value.specs.Arena.{Apart, set3}
 use Rattle.machine.specs.Program.{Program, make, failed}
 use Rattle.machine.specs.Error.{stack_underflow}
@@ -14,14 +14,13 @@ use Rattle.value.specs.Lists.{stack_of, row_of}
 use Rattle.stacks.specs.declared.Depths.{Depths}
 use Rattle.stacks.specs.declared.Frame.{Frame}
 use Rattle.stacks.specs.declared.Handler.{Handler}
-use Rattle.stacks.specs.declared.Made.{Made}
-use Rattle.stacks.specs.declared.Made.TheVariants.{Went, Failed, Refused}
-use Rattle.stacks.specs.declared.Popped.{Popped}
-use Rattle.stacks.specs.declared.Popped.TheVariants.{Took, Empty}
 use Rattle.machine.specs.Value as M
 use Rattle.machine.specs.State as St
 use Rattle.machine.specs.Act as A
 use Rattle.machine.specs.Instruction as I
+use Rattle.value.specs.declared.Value.{Value}
+use Rattle.value.specs.declared.Stop.{Stop}
+use Rattle.value.specs.declared.Stop.TheVariants.{Failed, Refused}
 
 abbrev pub frame_of : Frame → St.Frame
 frame_of f = record { image = f.image; template = f.template; ip = f.ip; base = f.base; count = f.count }
@@ -81,34 +80,34 @@ pub record Ready (d : Depths) (w : List ℕ) : Type 0 where
 
 -- The contract of an act. Whatever program p follows, and whatever the rest of the state is, the program that makes the act and goes on as p comes to what
 -- the answer says: p goes on from the new state, or the run ended, or a store refused. An error and a refusal leave the words.
-abbrev pub made_then : Made → Program → Depths → List ℕ → St.State → Out
-made_then (Went e) p d w s = out p (on_stacks e w s)
-made_then (Failed e) p d w s = ended (failed (error_of e)) (on_stacks d w s)
-made_then (Refused q) p d w s = refused (space_of q)
+abbrev pub made_then : Result Depths Stop → Program → Depths → List ℕ → St.State → Out
+made_then (Ok e) p d w s = out p (on_stacks e w s)
+made_then (Err (Failed e)) p d w s = ended (failed (error_of e)) (on_stacks d w s)
+made_then (Err (Refused q)) p d w s = refused (space_of q)
 
-abbrev pub MadeReady : Made → List ℕ → List ℕ → Type 0
-MadeReady (Went e) w w' = Ready e w'
-MadeReady (Failed e) w w' = w' ≡ w
-MadeReady (Refused q) w w' = w' ≡ w
+abbrev pub MadeReady : Result Depths Stop → List ℕ → List ℕ → Type 0
+MadeReady (Ok e) w w' = Ready e w'
+MadeReady (Err (Failed e)) w w' = w' ≡ w
+MadeReady (Err (Refused q)) w w' = w' ≡ w
 
-pub record Makes (a : A.Act) (d : Depths) (w : List ℕ) (r : Made) (w' : List ℕ) : Type 0 where
+pub record Makes (a : A.Act) (d : Depths) (w : List ℕ) (r : Result Depths Stop) (w' : List ℕ) : Type 0 where
   pub goes : (s : St.State) (p : Program) → out (make a p) (on_stacks d w s) ≡ made_then r p d w' s
   pub ready : MadeReady r w w'
 
-abbrev pub pop_then : Popped → (M.Value → Program) → Depths → List ℕ → St.State → Out
-pop_then (Took v e) k d w s = out (k (value_of v)) (on_stacks e w s)
-pop_then Empty k d w s = ended (failed stack_underflow) (on_stacks d w s)
+abbrev pub pop_then : Option (Value × Depths) → (M.Value → Program) → Depths → List ℕ → St.State → Out
+pop_then (Some (v, e)) k d w s = out (k (value_of v)) (on_stacks e w s)
+pop_then None k d w s = ended (failed stack_underflow) (on_stacks d w s)
 
-abbrev pub PopReady : Popped → List ℕ → Type 0
-PopReady (Took v e) w = Ready e w
-PopReady Empty w = Unit {0}
+abbrev pub PopReady : Option (Value × Depths) → List ℕ → Type 0
+PopReady (Some (v, e)) w = Ready e w
+PopReady None w = Unit {0}
 
 -- what stood before a pop: the value on what is left, or nothing
-abbrev pub PopState : Popped → Depths → List ℕ → Type 0
-PopState (Took v e) d w = (s : St.State) → on_stacks d w s ≡ A.apply (A.push (value_of v)) (on_stacks e w s)
-PopState Empty d w = operands_of w d.operands ≡ []
+abbrev pub PopState : Option (Value × Depths) → Depths → List ℕ → Type 0
+PopState (Some (v, e)) d w = (s : St.State) → on_stacks d w s ≡ A.apply (A.push (value_of v)) (on_stacks e w s)
+PopState None d w = operands_of w d.operands ≡ []
 
-pub record Pops (d : Depths) (w : List ℕ) (r : Popped) : Type 0 where
+pub record Pops (d : Depths) (w : List ℕ) (r : Option (Value × Depths)) : Type 0 where
   pub state : PopState r d w
   pub ready : PopReady r w
 

@@ -8,11 +8,11 @@ ghost use Rattle.machine.specs.Act.{push, push_handler, store, push_frame};
 ghost use Rattle.value.specs.Words.{value_of, value_at};
 ghost use Rattle.stacks.specs.Layout.{slot_limit, frame_limit, handler_limit, slots_at, frames_at, handlers_at, stack_words};
 ghost use Rattle.stacks.specs.View.{on_stacks, Ready, Pops, Makes, PopsHandler, Truncates, Keeps, Cuts, handlers_of, saved_more, PendingOver, PopsFrame, Unwinds, frame_at, frame_of, handler_at, handler_of, top_of, slot_of, Filled, Puts, Saves, set_frame, above, Copies, Passes, called};
+ghost use Rattle.stacks.specs.Laws.{with_operands, with_ip, Grows};
 ghost use Rattle.stacks.specs.Places.{Stands};
-ghost use Rattle.stacks.specs.declared.Made.TheVariants.{Went};
 ghost use Rattle.machine.specs.State.{operand_limit};
 
-use value::{JsVmError, Space, Value};
+use value::{JsVmError, Space, Stop, Value};
 
 // The limits of documents 01 and 02, and where each stack begins: an operand and a slot have 3 words, a frame 5, a handler 3.
 pub const OPERAND_LIMIT: usize = 1024;
@@ -33,7 +33,7 @@ pub const STACK_WORDS: usize = HANDLERS_AT + 3 * HANDLER_LIMIT;
 
 // How many stand, and the place of the newest frame.
 #[repr(C)]
-#[derive(Clone, Copy)]
+#[derive(Clone, Copy, Debug, Default, PartialEq, Eq)]
 pub struct Depths {
     pub operands: usize,
     pub slots: usize,
@@ -42,27 +42,7 @@ pub struct Depths {
     pub ip: usize,
 }
 
-// What came of an act: it was made, an error stopped it, or a store refused.
-#[derive(Clone, Copy)]
-pub enum Made {
-    Went(Depths),
-    Failed(JsVmError),
-    Refused(Space),
-}
-
-#[derive(Clone, Copy)]
-pub enum Popped {
-    Took(Value, Depths),
-    Empty,
-}
-
-#[derive(Clone, Copy)]
-pub enum Place {
-    At(usize),
-    Nowhere,
-}
-
-#[derive(Clone, Copy)]
+#[derive(Clone, Copy, Debug, PartialEq, Eq)]
 pub struct Frame {
     pub image: u64,
     pub template: u64,
@@ -71,94 +51,344 @@ pub struct Frame {
     pub count: u64,
 }
 
-#[derive(Clone, Copy)]
+#[derive(Clone, Copy, Debug, PartialEq, Eq)]
 pub struct Handler {
     pub catch: u64,
     pub operands: u64,
     pub frames: u64,
 }
 
-pub fn pop(d: Depths, stacks: &[u64]) -> Popped
-    requires { Ready d stacks.now }
-    ensures { Pops d stacks.now result }
-{
-    let n = d.operands;
-    if n == 0 {
-        return Popped::Empty;
+impl Depths {
+    pub fn with_operands(self, n: usize) -> Depths
+        ensures { result ≡ with_operands n self }
+    {
+        Depths {
+            operands: n,
+            ..self
+        }
     }
-    let v = value::read(stacks, 3 * (n - 1));
-    let mut e = d;
-    e.operands = n - 1;
-    Popped::Took(v, e)
-}
 
-// The newest operand, or Undefined.
-pub fn top(d: Depths, stacks: &[u64]) -> Value
-    requires { Ready d stacks.now }
-    ensures { value_of result ≡ top_of d stacks.now }
-{
-    let n = d.operands;
-    if n == 0 {
-        return Value::Undefined;
+    pub fn with_ip(self, p: usize) -> Depths
+        ensures { result ≡ with_ip p self }
+    {
+        Depths { ip: p, ..self }
     }
-    value::read(stacks, 3 * (n - 1))
-}
 
-// n operands off, or all where fewer stand.
-pub fn truncate(d: Depths, n: usize) -> Depths
-    ensures { Truncates d n result }
-{
-    let mut e = d;
-    e.operands = minus(d.operands, n);
-    e
-}
-
-pub fn push(d: Depths, stacks: &mut [u64], v: Value) -> Made
-    requires { Ready d stacks.old }
-    ensures { Makes (push (value_of v)) d stacks.old result stacks.new }
-{
-    let n = d.operands;
-    if n < OPERAND_LIMIT {
-        value::write(stacks, 3 * n, v);
-        let mut e = d;
-        e.operands = n + 1;
-        return Made::Went(e);
+    pub fn pop(self, stacks: &[u64]) -> Option<(Value, Depths)>
+        requires { Ready self stacks.now }
+        ensures { Pops self stacks.now result }
+    {
+        let n = self.operands.checked_sub(1)?;
+        Some((value::read(stacks, 3 * n), self.with_operands(n)))
     }
-    Made::Failed(JsVmError::StackOverflow)
-}
 
-// The value at place k of the store, pushed.
-pub fn push_copy(d: Depths, stacks: &mut [u64], k: usize) -> Made
-    requires ready { Ready d stacks.old }
-    requires k_bound { k + 2 < stack_words }
-    ensures { Makes (push (value_at stacks.old k)) d stacks.old result stacks.new }
-{
-    let n = d.operands;
-    if n < OPERAND_LIMIT {
-        value::copy(stacks, 3 * n, k);
-        let mut e = d;
-        e.operands = n + 1;
-        return Made::Went(e);
+    // The newest operand, or Undefined.
+    pub fn top(self, stacks: &[u64]) -> Value
+        requires { Ready self stacks.now }
+        ensures { value_of result ≡ top_of self stacks.now }
+    {
+        let n = self.operands;
+        if n == 0 {
+            return Value::Undefined;
+        }
+        value::read(stacks, 3 * (n - 1))
     }
-    Made::Failed(JsVmError::StackOverflow)
-}
 
-// The value at place k of another store, pushed.
-pub fn push_from(d: Depths, stacks: &mut [u64], source: &[u64], k: usize) -> Made
-    requires ready { Ready d stacks.old }
-    requires k_in_bounds { k + 2 < length source.now }
-    ensures { Makes (push (value_at source.now k)) d stacks.old result stacks.new }
-{
-    let n = d.operands;
-    if n < OPERAND_LIMIT {
-        value::bring(stacks, 3 * n, source, k);
-        let mut e = d;
-        e.operands = n + 1;
-        return Made::Went(e);
+    // n operands off, or all where fewer stand.
+    pub fn truncate(self, n: usize) -> Depths
+        ensures { Truncates self n result }
+    {
+        self.with_operands(self.operands.saturating_sub(n))
     }
-    Made::Failed(JsVmError::StackOverflow)
+
+    // One operand more, if there is room for it.
+    fn grown(self) -> Result<Depths, Stop>
+        ensures { Grows self result }
+    {
+        let n = self.operands;
+        if n < OPERAND_LIMIT {
+            Ok(self.with_operands(n + 1))
+        } else {
+            Err(Stop::Failed(JsVmError::StackOverflow))
+        }
+    }
+
+    pub fn push(self, stacks: &mut [u64], v: Value) -> Result<Depths, Stop>
+        requires { Ready self stacks.old }
+        ensures { Makes (push (value_of v)) self stacks.old result stacks.new }
+    {
+        let d = self.grown()?;
+        value::write(stacks, 3 * self.operands, v);
+        Ok(d)
+    }
+
+    // The value at place k of the store, pushed.
+    pub fn push_copy(self, stacks: &mut [u64], k: usize) -> Result<Depths, Stop>
+        requires ready { Ready self stacks.old }
+        requires k_bound { k + 2 < stack_words }
+        ensures { Makes (push (value_at stacks.old k)) self stacks.old result stacks.new }
+    {
+        let d = self.grown()?;
+        value::copy(stacks, 3 * self.operands, k);
+        Ok(d)
+    }
+
+    // The value at place k of another store, pushed.
+    pub fn push_from(self, stacks: &mut [u64], source: &[u64], k: usize) -> Result<Depths, Stop>
+        requires ready { Ready self stacks.old }
+        requires k_in_bounds { k + 2 < length source.now }
+        ensures { Makes (push (value_at source.now k)) self stacks.old result stacks.new }
+    {
+        let d = self.grown()?;
+        value::bring(stacks, 3 * self.operands, source, k);
+        Ok(d)
+    }
+
+    pub fn push_handler(self, stacks: &mut [u64], catch: u64) -> Result<Depths, Stop>
+        requires { Ready self stacks.old }
+        ensures { Makes (push_handler catch) self stacks.old result stacks.new }
+    {
+        if self.frames == 0 {
+            return Err(Stop::Failed(JsVmError::NoCallFrame));
+        }
+        let n = self.handlers;
+        if HANDLER_LIMIT <= n {
+            return Err(Stop::Refused(Space::Handlers));
+        }
+        let k = HANDLERS_AT + 3 * n;
+        stacks[k] = catch;
+        stacks[k + 1] = self.operands as u64;
+        stacks[k + 2] = self.frames as u64;
+        Ok(Depths {
+            handlers: n + 1,
+            ..self
+        })
+    }
+
+    // The newest handler off, if there is one.
+    pub fn pop_handler(self) -> Depths
+        ensures { PopsHandler self result }
+    {
+        Depths {
+            handlers: self.handlers.saturating_sub(1),
+            ..self
+        }
+    }
+
+    // Only the lowest k frames stand, with their slots; the newest goes on at p.
+    pub fn keep_frames(self, k: usize, p: usize, stacks: &[u64]) -> Depths
+        requires ready { Ready self stacks.now }
+        requires k_le_frame_limit { k ≤ frame_limit }
+        ensures { Keeps self k p stacks.now result }
+    {
+        let slots = if k == 0 {
+            0
+        } else {
+            let f = read_frame(stacks, FRAMES_AT + 5 * (k - 1));
+            f.end_of(self.slots)
+        };
+        Depths {
+            slots,
+            frames: k,
+            ip: p,
+            ..self
+        }
+    }
+
+    // Only the lowest m frames stand, with their slots.
+    pub fn cut_frames(self, m: usize, stacks: &[u64]) -> Depths
+        requires { Ready self stacks.now }
+        ensures { Cuts self m stacks.now result }
+    {
+        let n = self.frames;
+        if n <= m {
+            return self.keep_frames(n, self.ip, stacks);
+        }
+        if m == 0 {
+            return self.keep_frames(0, 0, stacks);
+        }
+        let f = read_frame(stacks, FRAMES_AT + 5 * (m - 1));
+        self.keep_frames(m, f.ip as usize, stacks)
+    }
+
+    // The newest frame is taken off, with its slots and its handlers.
+    pub fn pop_frame(self, stacks: &[u64]) -> Depths
+        requires { Ready self stacks.now }
+        ensures { PopsFrame self stacks.now result }
+    {
+        let k = self.frames.saturating_sub(1);
+        let d = Depths {
+            handlers: pending_over(self.handlers, k, stacks),
+            ..self
+        };
+        d.cut_frames(k, stacks)
+    }
+
+    // The newest handler is taken off, with what stands above the operands and frames that it saved.
+    pub fn unwind(self, h: Handler, stacks: &[u64]) -> Depths
+        requires ready { Ready self stacks.now }
+        requires pending { self.handlers ≡ 0 → ⊥ }
+        requires newest { handler_of h ≡ handler_at stacks.now (handlers_at + 3 * (self.handlers - 1)) }
+        ensures { Unwinds self stacks.now result }
+    {
+        let d = Depths {
+            operands: self.operands.min(h.operands as usize),
+            handlers: self.handlers - 1,
+            ..self
+        };
+        d.cut_frames(h.frames as usize, stacks)
+    }
+
+    // Where slot i of the newest frame stands.
+    pub fn slot_place(self, stacks: &[u64], i: usize) -> Option<usize>
+        requires { Ready self stacks.now }
+        ensures { Stands self stacks.now i result }
+    {
+        let k = self.frames.checked_sub(1)?;
+        let f = read_frame(stacks, FRAMES_AT + 5 * k);
+        if f.count <= i as u64 {
+            return None;
+        }
+        let b = f.base as usize;
+        if self.slots.saturating_sub(i) <= b {
+            return None;
+        }
+        Some(SLOTS_AT + 3 * (b + i))
+    }
+
+    // Slot i of the newest frame, or Undefined.
+    pub fn read_slot(self, stacks: &[u64], i: usize) -> Value
+        requires { Ready self stacks.now }
+        ensures { value_of result ≡ slot_of self stacks.now i }
+    {
+        let Some(k) = self.slot_place(stacks, i) else {
+            return Value::Undefined;
+        };
+        value::read(stacks, k)
+    }
+
+    // A value into slot i of the newest frame, which grows to have it.
+    pub fn store(self, stacks: &mut [u64], i: usize, v: Value) -> Result<Depths, Stop>
+        requires ready { Ready self stacks.old }
+        requires i_bound { i < 65536 }
+        ensures { Makes (store i (value_of v)) self stacks.old result stacks.new }
+    {
+        let k = self.frames;
+        if k == 0 {
+            return Ok(self);
+        }
+        let at = FRAMES_AT + 5 * (k - 1);
+        let f = read_frame(stacks, at);
+        let more = f.lacking(i);
+        let n = self.slots;
+        if SLOT_LIMIT - n < more {
+            return Err(Stop::Refused(Space::Slots));
+        }
+        fill(stacks, n, n + more);
+        stacks[at + 4] = f.count + more as u64;
+        put(stacks, n + more, f.base, i, v);
+        Ok(Depths {
+            slots: n + more,
+            ..self
+        })
+    }
+
+    // The newest frame's place, from the depths into its row.
+    pub fn save_ip(self, stacks: &mut [u64])
+        requires { Ready self stacks.old }
+        ensures { Saves self stacks.old stacks.new }
+    {
+        let k = self.frames;
+        if k == 0 {
+            return;
+        }
+        stacks[FRAMES_AT + 5 * (k - 1) + 2] = self.ip as u64;
+    }
+
+    // A frame for a template of an image, with the `count` values above the slots as its own. There is room for it.
+    fn add_frame(self, stacks: &mut [u64], image: u64, template: u64, count: usize) -> Depths
+        requires ready { Ready self stacks.old }
+        requires frames_lt_frame_limit { (self.frames < frame_limit) × (count ≤ slot_limit - self.slots) }
+        ensures { Makes (push_frame image template (above stacks.old self.slots count)) self stacks.old (Ok result) stacks.new }
+    {
+        let k = self.frames;
+        let n = self.slots;
+        self.save_ip(stacks);
+        write_frame(
+            stacks,
+            FRAMES_AT + 5 * k,
+            Frame {
+                image,
+                template,
+                ip: 0,
+                base: n as u64,
+                count: count as u64,
+            },
+        );
+        Depths {
+            slots: n + count,
+            frames: k + 1,
+            ip: 0,
+            ..self
+        }
+    }
+
+    // A run's own frame: it has no slots.
+    pub fn push_frame(self, stacks: &mut [u64], image: u64, template: u64) -> Result<Depths, Stop>
+        requires { Ready self stacks.old }
+        ensures { Makes (push_frame image template []) self stacks.old result stacks.new }
+    {
+        if FRAME_LIMIT <= self.frames {
+            return Err(Stop::Refused(Space::Frames));
+        }
+        Ok(self.add_frame(stacks, image, template, 0))
+    }
+
+    // A called function's frame. Callee and arguments are popped already: the arguments stand right above the callee, above these operands.
+    pub fn call_frame(
+        self,
+        stacks: &mut [u64],
+        image: u64,
+        template: u64,
+        argc: usize,
+        params: usize,
+        locals: usize,
+    ) -> Result<Depths, Stop>
+        requires ready { Ready self stacks.old }
+        requires argc_bound { self.operands + 1 + argc ≤ operand_limit }
+        ensures { Makes (push_frame image template (called stacks.old (self.operands + 1) argc params locals)) self stacks.old result stacks.new }
+    {
+        if FRAME_LIMIT <= self.frames {
+            return Err(Stop::Refused(Space::Frames));
+        }
+        let n = self.slots;
+        let count = params.max(locals);
+        if SLOT_LIMIT - n < count {
+            return Err(Stop::Refused(Space::Slots));
+        }
+        pass_arguments(stacks, self.operands + 1, argc, n, params, locals);
+        Ok(self.add_frame(stacks, image, template, count))
+    }
 }
 
+impl Frame {
+    // The place after its slots, of n slots in all.
+    pub fn end_of(self, n: usize) -> usize
+        ensures { result ≡ min (self.base + self.count) n }
+    {
+        self.base.saturating_add(self.count).min(n as u64) as usize
+    }
+
+    // How many slots it lacks to have slot i.
+    pub fn lacking(self, i: usize) -> usize
+        requires { i < 65536 }
+        ensures { result ≡ i + 1 - self.count }
+    {
+        (i as u64 + 1).saturating_sub(self.count) as usize
+    }
+}
+
+#[tactic(auto, unfolding(crate::specs::View::frame_at))]
 pub fn read_frame(w: &[u64], k: usize) -> Frame
     requires { k + 4 < length w.now }
     ensures { frame_of result ≡ frame_at w.now k }
@@ -172,6 +402,19 @@ pub fn read_frame(w: &[u64], k: usize) -> Frame
     }
 }
 
+#[tactic(auto, unfolding(crate::specs::View::set_frame))]
+pub fn write_frame(w: &mut [u64], k: usize, f: Frame)
+    requires { k + 4 < length w.old }
+    ensures { w.new ≡ set_frame w.old k f }
+{
+    w[k] = f.image;
+    w[k + 1] = f.template;
+    w[k + 2] = f.ip;
+    w[k + 3] = f.base;
+    w[k + 4] = f.count;
+}
+
+#[tactic(auto, unfolding(crate::specs::View::handler_at))]
 pub fn read_handler(w: &[u64], k: usize) -> Handler
     requires { k + 2 < length w.now }
     ensures { handler_of result ≡ handler_at w.now k }
@@ -181,106 +424,6 @@ pub fn read_handler(w: &[u64], k: usize) -> Handler
         operands: w[k + 1],
         frames: w[k + 2],
     }
-}
-
-pub fn push_handler(d: Depths, stacks: &mut [u64], catch: u64) -> Made
-    requires { Ready d stacks.old }
-    ensures { Makes (push_handler catch) d stacks.old result stacks.new }
-{
-    if d.frames == 0 {
-        return Made::Failed(JsVmError::NoCallFrame);
-    }
-    let n = d.handlers;
-    if HANDLER_LIMIT <= n {
-        return Made::Refused(Space::Handlers);
-    }
-    let k = HANDLERS_AT + 3 * n;
-    stacks[k] = catch;
-    stacks[k + 1] = d.operands as u64;
-    stacks[k + 2] = d.frames as u64;
-    let mut e = d;
-    e.handlers = n + 1;
-    Made::Went(e)
-}
-
-pub fn pop_handler(d: Depths) -> Depths
-    ensures { PopsHandler d result }
-{
-    let n = d.handlers;
-    if n == 0 {
-        return d;
-    }
-    let mut e = d;
-    e.handlers = n - 1;
-    e
-}
-
-// The place after a frame's slots, of n slots in all.
-pub fn end_of(n: usize, base: u64, count: u64) -> usize
-    ensures { result ≡ min (base + count) n }
-{
-    let b = base as usize;
-    if n <= b {
-        return n;
-    }
-    let c = count as usize;
-    if n - b <= c {
-        return n;
-    }
-    b + c
-}
-
-// Only the lowest k frames stand, with their slots; the newest goes on at p.
-pub fn keep_frames(d: Depths, k: usize, p: usize, stacks: &[u64]) -> Depths
-    requires ready { Ready d stacks.now }
-    requires k_le_frame_limit { k ≤ frame_limit }
-    ensures { Keeps d k p stacks.now result }
-{
-    let mut e = d;
-    e.frames = k;
-    e.ip = p;
-    if k == 0 {
-        e.slots = 0;
-        return e;
-    }
-    let f = read_frame(stacks, FRAMES_AT + 5 * (k - 1));
-    e.slots = end_of(d.slots, f.base, f.count);
-    e
-}
-
-// Only the lowest m frames stand, with their slots.
-pub fn cut_frames(d: Depths, m: usize, stacks: &[u64]) -> Depths
-    requires { Ready d stacks.now }
-    ensures { Cuts d m stacks.now result }
-{
-    let n = d.frames;
-    if n <= m {
-        return keep_frames(d, n, d.ip, stacks);
-    }
-    if m == 0 {
-        return keep_frames(d, 0, 0, stacks);
-    }
-    let f = read_frame(stacks, FRAMES_AT + 5 * (m - 1));
-    keep_frames(d, m, f.ip as usize, stacks)
-}
-
-// The difference, 0 where it would be negative.
-pub fn minus(a: usize, b: usize) -> usize
-    ensures { result ≡ a - b }
-{
-    if a < b { 0 } else { a - b }
-}
-
-pub fn lesser(a: usize, b: usize) -> usize
-    ensures { result ≡ min a b }
-{
-    if a < b { a } else { b }
-}
-
-pub fn greater(a: usize, b: usize) -> usize
-    ensures { result ≡ max a b }
-{
-    if a < b { b } else { a }
 }
 
 // Did the newest of n handlers save more than k frames?
@@ -307,83 +450,13 @@ pub fn pending_over(n: usize, k: usize, stacks: &[u64]) -> usize
     m
 }
 
-// The newest frame is taken off, with its slots and its handlers.
-pub fn pop_frame(d: Depths, stacks: &[u64]) -> Depths
-    requires { Ready d stacks.now }
-    ensures { PopsFrame d stacks.now result }
-{
-    let k = minus(d.frames, 1);
-    let mut e = d;
-    e.handlers = pending_over(d.handlers, k, stacks);
-    cut_frames(e, k, stacks)
-}
-
-// The newest handler is taken off, with what stands above the operands and frames that it saved.
-pub fn unwind(d: Depths, h: Handler, stacks: &[u64]) -> Depths
-    requires ready { Ready d stacks.now }
-    requires pending { d.handlers ≡ 0 → ⊥ }
-    requires newest { handler_of h ≡ handler_at stacks.now (handlers_at + 3 * (d.handlers - 1)) }
-    ensures { Unwinds d stacks.now result }
-{
-    let mut e = d;
-    e.handlers = d.handlers - 1;
-    e.operands = lesser(d.operands, h.operands as usize);
-    cut_frames(e, h.frames as usize, stacks)
-}
-
-// Where slot i of the newest frame stands.
-pub fn slot_place(d: Depths, stacks: &[u64], i: usize) -> Place
-    requires { Ready d stacks.now }
-    ensures { Stands d stacks.now i result }
-{
-    let k = d.frames;
-    if k == 0 {
-        return Place::Nowhere;
-    }
-    let f = read_frame(stacks, FRAMES_AT + 5 * (k - 1));
-    if f.count <= i as u64 {
-        return Place::Nowhere;
-    }
-    let n = d.slots;
-    if n <= i {
-        return Place::Nowhere;
-    }
-    let b = f.base as usize;
-    if n - i <= b {
-        return Place::Nowhere;
-    }
-    Place::At(SLOTS_AT + 3 * (b + i))
-}
-
-// Slot i of the newest frame, or Undefined.
-pub fn read_slot(d: Depths, stacks: &[u64], i: usize) -> Value
-    requires { Ready d stacks.now }
-    ensures { value_of result ≡ slot_of d stacks.now i }
-{
-    let Place::At(k) = slot_place(d, stacks, i) else {
-        return Value::Undefined;
-    };
-    value::read(stacks, k)
-}
-
-// How many slots a frame with `count` of them lacks to have slot i.
-pub fn lacking(i: usize, count: u64) -> usize
-    requires { i < 65536 }
-    ensures { result ≡ i + 1 - count }
-{
-    let n = i as u64 + 1;
-    if count < n { (n - count) as usize } else { 0 }
-}
-
 // Undefined into the slots from a place to another.
 pub fn fill(w: &mut [u64], from: usize, to: usize)
     requires { (from ≤ to) × (to ≤ slot_limit) × (length w.old ≡ stack_words) }
     ensures { Filled w.old w.new from to }
 {
-    let mut i = from;
-    while i < to {
+    for i in from..to {
         value::write(w, SLOTS_AT + 3 * i, Value::Undefined);
-        i += 1;
     }
 }
 
@@ -392,100 +465,10 @@ pub fn put(w: &mut [u64], n: usize, base: u64, i: usize, v: Value)
     requires { (n ≤ slot_limit) × (length w.old ≡ stack_words) }
     ensures { Puts w.old w.new n (base + i) (value_of v) }
 {
-    if n <= i {
-        return;
-    }
     let b = base as usize;
-    if n - i <= b {
-        return;
+    if b < n.saturating_sub(i) {
+        value::write(w, SLOTS_AT + 3 * (b + i), v);
     }
-    value::write(w, SLOTS_AT + 3 * (b + i), v);
-}
-
-// A value into slot i of the newest frame, which grows to have it.
-pub fn store(d: Depths, stacks: &mut [u64], i: usize, v: Value) -> Made
-    requires ready { Ready d stacks.old }
-    requires i_bound { i < 65536 }
-    ensures { Makes (store i (value_of v)) d stacks.old result stacks.new }
-{
-    let k = d.frames;
-    if k == 0 {
-        return Made::Went(d);
-    }
-    let at = FRAMES_AT + 5 * (k - 1);
-    let f = read_frame(stacks, at);
-    let more = lacking(i, f.count);
-    let n = d.slots;
-    if SLOT_LIMIT - n < more {
-        return Made::Refused(Space::Slots);
-    }
-    fill(stacks, n, n + more);
-    stacks[at + 4] = f.count + more as u64;
-    put(stacks, n + more, f.base, i, v);
-    let mut e = d;
-    e.slots = n + more;
-    Made::Went(e)
-}
-
-// The newest frame's place, from the depths into its row.
-pub fn save_ip(d: Depths, stacks: &mut [u64])
-    requires { Ready d stacks.old }
-    ensures { Saves d stacks.old stacks.new }
-{
-    let k = d.frames;
-    if k == 0 {
-        return;
-    }
-    stacks[FRAMES_AT + 5 * (k - 1) + 2] = d.ip as u64;
-}
-
-pub fn write_frame(w: &mut [u64], k: usize, f: Frame)
-    requires { k + 4 < length w.old }
-    ensures { w.new ≡ set_frame w.old k f }
-{
-    w[k] = f.image;
-    w[k + 1] = f.template;
-    w[k + 2] = f.ip;
-    w[k + 3] = f.base;
-    w[k + 4] = f.count;
-}
-
-// A frame for a template of an image, with the `count` values above the slots as its own. There is room for it.
-fn add_frame(d: Depths, stacks: &mut [u64], image: u64, template: u64, count: usize) -> Depths
-    requires ready { Ready d stacks.old }
-    requires frames_lt_frame_limit { (d.frames < frame_limit) × (count ≤ slot_limit - d.slots) }
-    ensures { Makes (push_frame image template (above stacks.old d.slots count)) d stacks.old (Went result) stacks.new }
-{
-    let k = d.frames;
-    let n = d.slots;
-    save_ip(d, stacks);
-    write_frame(
-        stacks,
-        FRAMES_AT + 5 * k,
-        Frame {
-            image: image,
-            template: template,
-            ip: 0,
-            base: n as u64,
-            count: count as u64,
-        },
-    );
-    let mut e = d;
-    e.slots = n + count;
-    e.frames = k + 1;
-    e.ip = 0;
-    e
-}
-
-// A run's own frame: it has no slots.
-pub fn push_frame(d: Depths, stacks: &mut [u64], image: u64, template: u64) -> Made
-    requires { Ready d stacks.old }
-    ensures { Makes (push_frame image template []) d stacks.old result stacks.new }
-{
-    if FRAME_LIMIT <= d.frames {
-        return Made::Refused(Space::Frames);
-    }
-    Made::Went(add_frame(d, stacks, image, template, 0))
 }
 
 // `count` operands from number `from` on, into the slots from number `to` on.
@@ -493,11 +476,8 @@ fn copy_arguments(w: &mut [u64], from: usize, to: usize, count: usize)
     requires { (from + count ≤ operand_limit) × (to + count ≤ slot_limit) × (length w.old ≡ stack_words) }
     ensures { Copies w.old w.new from to count }
 {
-    let mut i: usize = 0;
-    while i < count {
-        let v = value::read(w, 3 * (from + i));
-        value::write(w, SLOTS_AT + 3 * (to + i), v);
-        i += 1;
+    for i in 0..count {
+        value::copy(w, SLOTS_AT + 3 * (to + i), 3 * (from + i));
     }
 }
 
@@ -506,34 +486,7 @@ fn pass_arguments(w: &mut [u64], from: usize, argc: usize, n: usize, params: usi
     requires { (from + argc ≤ operand_limit) × (n + max params locals ≤ slot_limit) × (length w.old ≡ stack_words) }
     ensures { Passes w.old w.new from argc n params locals }
 {
-    let m = lesser(argc, params);
-    let count = greater(params, locals);
+    let m = argc.min(params);
     copy_arguments(w, from, n, m);
-    fill(w, n + m, n + count);
-}
-
-// A called function's frame. Callee and arguments are popped already: the arguments stand right above the callee, above the operands of d.
-pub fn call_frame(
-    d: Depths,
-    stacks: &mut [u64],
-    image: u64,
-    template: u64,
-    argc: usize,
-    params: usize,
-    locals: usize,
-) -> Made
-    requires ready { Ready d stacks.old }
-    requires argc_bound { d.operands + 1 + argc ≤ operand_limit }
-    ensures { Makes (push_frame image template (called stacks.old (d.operands + 1) argc params locals)) d stacks.old result stacks.new }
-{
-    if FRAME_LIMIT <= d.frames {
-        return Made::Refused(Space::Frames);
-    }
-    let n = d.slots;
-    let count = greater(params, locals);
-    if SLOT_LIMIT - n < count {
-        return Made::Refused(Space::Slots);
-    }
-    pass_arguments(stacks, d.operands + 1, argc, n, params, locals);
-    Made::Went(add_frame(d, stacks, image, template, count))
+    fill(w, n + m, n + params.max(locals));
 }

@@ -6,8 +6,7 @@ ghost use Rattle.heap.specs.Layout.{heap_words};
 ghost use Rattle.heap.specs.View.{Sized};
 
 use crate::stack_rows;
-use heap::{Grown, Sizes};
-use objects::Placed;
+use heap::Sizes;
 use texts::Source;
 use value::Value;
 
@@ -35,23 +34,13 @@ fn length_after(heap: &mut [u64], text: &mut [u8], stacks: &[u64], key: &[u8]) -
     requires { (length heap.old ≡ heap_words) × (length text.old ≡ text_limit) × (length stacks.now ≡ stack_words) }
 {
     let z = heap::clear(heap);
-    let Placed::Went(y, m) = arrays::add_array(z, heap, text, 0, stacks, 0, 0, 0) else {
+    let Ok((y, m)) = arrays::add_array(z, heap, text, 0, stacks, 0, 0, 0) else {
         return 0;
     };
     let size = Source::Buffer(key.len() as u64);
     let array = Value::Object(0);
-    let Placed::Went(x, e) = arrays::set_property(
-        y,
-        heap,
-        b"",
-        0,
-        text,
-        m,
-        key,
-        array,
-        size,
-        Value::Null,
-    ) else {
+    let Ok((x, e)) = arrays::set_property(y, heap, b"", 0, text, m, key, array, size, Value::Null)
+    else {
         return 0;
     };
     bits(x, heap, text, e, b"length")
@@ -67,7 +56,7 @@ fn three_of_one(heap: &mut [u64], text: &mut [u8], stacks: &mut [u64]) -> bool
 {
     stack_rows::one(stacks, 5);
     let z = heap::clear(heap);
-    let Placed::Went(y, m) = arrays::add_array(z, heap, text, 0, stacks, 0, 1, 3) else {
+    let Ok((y, m)) = arrays::add_array(z, heap, text, 0, stacks, 0, 1, 3) else {
         return false;
     };
     let first = bits(y, heap, text, m, b"0") == 5;
@@ -82,7 +71,7 @@ fn object_stays(heap: &mut [u64], stacks: &mut [u64]) -> bool
     requires { (length heap.old ≡ heap_words) × (length stacks.old ≡ stack_words) }
 {
     let z = heap::clear(heap);
-    let Grown::Went(y) = heap::add_object(z, heap) else {
+    let Ok(y) = heap::add_object(z, heap) else {
         return false;
     };
     stack_rows::push_overflows(stacks, 1024) && y.objects == 1

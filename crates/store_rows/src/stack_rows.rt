@@ -3,8 +3,8 @@ ghost use Rattle.std.specs.Prelude.{◌≡◌, ℕ, ◌<◌, List, length};
 ghost use Rattle.stacks.specs.Layout.{stack_words};
 ghost use Rattle.stacks.specs.View.{Ready, MadeReady};
 
-use stacks::{Depths, Made, Popped};
-use value::{JsVmError, Space, Value};
+use stacks::Depths;
+use value::{JsVmError, Stop, Value};
 
 pub const ROWS: u64 = 8;
 
@@ -12,67 +12,26 @@ pub const ROWS: u64 = 8;
 fn none() -> Depths
     ensures { (w : List ℕ) → length w ≡ stack_words → Ready result w }
 {
-    Depths {
-        operands: 0,
-        slots: 0,
-        frames: 0,
-        handlers: 0,
-        ip: 0,
-    }
+    Depths::default()
 }
 
 // The depths after an act; an error or a refusal leaves them.
-fn after(d: Depths, m: Made) -> Depths
+fn after(d: Depths, m: Result<Depths, Stop>) -> Depths
     ensures { (w w' : List ℕ) → Ready d w → MadeReady m w w' → Ready result w' }
 {
     match m {
-        Made::Went(e) => e,
-        Made::Failed(_e) => d,
-        Made::Refused(_q) => d,
-    }
-}
-
-fn went(m: Made) -> bool {
-    match m {
-        Made::Went(_) => true,
-        Made::Failed(_) => false,
-        Made::Refused(_) => false,
+        Ok(e) => e,
+        Err(_) => d,
     }
 }
 
 // Question 16.
-fn overflows(m: Made) -> bool {
-    match m {
-        Made::Failed(e) => match e {
-            JsVmError::StackOverflow => true,
-            _ => false,
-        },
-        Made::Went(_) => false,
-        Made::Refused(_) => false,
-    }
+fn overflows(m: Result<Depths, Stop>) -> bool {
+    matches!(m, Err(Stop::Failed(JsVmError::StackOverflow)))
 }
 
-// The number of a store, as document 01 counts its questions.
-fn question(q: Space) -> u64 {
-    match q {
-        Space::Frames => 11,
-        Space::Slots => 21,
-        Space::Handlers => 22,
-        Space::Functions => 23,
-        Space::Objects => 24,
-        Space::Properties => 25,
-        Space::Globals => 26,
-        Space::Text => 27,
-        Space::Output => 28,
-    }
-}
-
-fn refuses(m: Made, n: u64) -> bool {
-    match m {
-        Made::Refused(q) => question(q) == n,
-        Made::Went(_) => false,
-        Made::Failed(_) => false,
-    }
+fn refuses(m: Result<Depths, Stop>, n: u64) -> bool {
+    m.is_err_and(|s| u64::from(s) == n)
 }
 
 fn operands(stacks: &mut [u64], n: usize) -> Depths
@@ -82,7 +41,7 @@ fn operands(stacks: &mut [u64], n: usize) -> Depths
     let mut d = none();
     let mut i: usize = 0;
     while i < n {
-        let m = stacks::push(d, stacks, Value::Number(i as u64));
+        let m = d.push(stacks, Value::Number(i as u64));
         d = after(d, m);
         i += 1;
     }
@@ -96,7 +55,7 @@ fn frames(stacks: &mut [u64], n: usize) -> Depths
     let mut d = none();
     let mut i: usize = 0;
     while i < n {
-        let m = stacks::push_frame(d, stacks, 0, 0);
+        let m = d.push_frame(stacks, 0, 0);
         d = after(d, m);
         i += 1;
     }
@@ -110,7 +69,7 @@ fn handlers(stacks: &mut [u64], n: usize) -> Depths
     let mut d = frames(stacks, 1);
     let mut i: usize = 0;
     while i < n {
-        let m = stacks::push_handler(d, stacks, 0);
+        let m = d.push_handler(stacks, 0);
         d = after(d, m);
         i += 1;
     }
@@ -121,7 +80,7 @@ fn handlers(stacks: &mut [u64], n: usize) -> Depths
 pub fn one(stacks: &mut [u64], n: u64)
     requires { length stacks.old ≡ stack_words }
 {
-    stacks::push(none(), stacks, Value::Number(n));
+    let _ = none().push(stacks, Value::Number(n));
 }
 
 // A push onto n operands succeeds.
@@ -129,7 +88,7 @@ fn push_fits(stacks: &mut [u64], n: usize) -> bool
     requires { length stacks.old ≡ stack_words }
 {
     let d = operands(stacks, n);
-    went(stacks::push(d, stacks, Value::Null))
+    d.push(stacks, Value::Null).is_ok()
 }
 
 // A push onto n operands is 16.
@@ -137,7 +96,7 @@ pub fn push_overflows(stacks: &mut [u64], n: usize) -> bool
     requires { length stacks.old ≡ stack_words }
 {
     let d = operands(stacks, n);
-    overflows(stacks::push(d, stacks, Value::Null))
+    overflows(d.push(stacks, Value::Null))
 }
 
 // Slot i stored by the only frame is accepted.
@@ -145,28 +104,28 @@ fn slot_fits(stacks: &mut [u64], i: usize) -> bool
     requires { (length stacks.old ≡ stack_words) × (i < 65536) }
 {
     let d = frames(stacks, 1);
-    went(stacks::store(d, stacks, i, Value::Null))
+    d.store(stacks, i, Value::Null).is_ok()
 }
 
 fn slot_refused(stacks: &mut [u64], i: usize) -> bool
     requires { (length stacks.old ≡ stack_words) × (i < 65536) }
 {
     let d = frames(stacks, 1);
-    refuses(stacks::store(d, stacks, i, Value::Null), 21)
+    refuses(d.store(stacks, i, Value::Null), 21)
 }
 
 fn frame_refused(stacks: &mut [u64], n: usize) -> bool
     requires { length stacks.old ≡ stack_words }
 {
     let d = frames(stacks, n);
-    refuses(stacks::push_frame(d, stacks, 0, 0), 11)
+    refuses(d.push_frame(stacks, 0, 0), 11)
 }
 
 fn handler_refused(stacks: &mut [u64], n: usize) -> bool
     requires { length stacks.old ≡ stack_words }
 {
     let d = handlers(stacks, n);
-    refuses(stacks::push_handler(d, stacks, 0), 22)
+    refuses(d.push_handler(stacks, 0), 22)
 }
 
 fn is_number(v: Value, n: u64) -> bool {
@@ -188,15 +147,15 @@ fn arguments_passed(stacks: &mut [u64]) -> bool
     requires { length stacks.old ≡ stack_words }
 {
     let three = operands(stacks, 3);
-    let d = stacks::truncate(three, 3);
+    let d = three.truncate(3);
     if 1000 < d.operands {
         return false;
     }
-    let m = stacks::call_frame(d, stacks, 0, 1, 2, 3, 4);
+    let m = d.call_frame(stacks, 0, 1, 2, 3, 4);
     let e = after(d, m);
-    let first = is_number(stacks::read_slot(e, stacks, 0), 1);
-    let second = is_number(stacks::read_slot(e, stacks, 1), 2);
-    let third = is_undefined(stacks::read_slot(e, stacks, 2));
+    let first = is_number(e.read_slot(stacks, 0), 1);
+    let second = is_number(e.read_slot(stacks, 1), 2);
+    let third = is_undefined(e.read_slot(stacks, 2));
     first && second && third && e.slots == 4
 }
 
@@ -205,10 +164,10 @@ fn empty_pops(stacks: &mut [u64]) -> bool
     requires { length stacks.old ≡ stack_words }
 {
     let d = operands(stacks, 0);
-    let Popped::Empty = stacks::pop(d, stacks) else {
+    let None = d.pop(stacks) else {
         return false;
     };
-    is_undefined(stacks::top(d, stacks))
+    is_undefined(d.top(stacks))
 }
 
 pub fn counted(agrees: bool) -> u64 {

@@ -1,7 +1,7 @@
 -- Bytes put after those that a store has in use: the machine's acts `keep_text` and `print`. Assumes nothing.
-use Rattle.std.specs.Prelude.{ℕ, ◌+◌, ◌-◌, ◌≤◌, ◌<◌, List, [], ◌∷◌, ◌++◌, leb, ◌≡◌, refl, length, get_or}
+use Rattle.std.specs.Prelude.{ℕ, ◌+◌, ◌-◌, ◌≤◌, ◌<◌, List, [], ◌∷◌, ◌++◌, leb, ◌≡◌, refl, length, get_or, Option, Some, None}
 use Rattle.std.proofs.Common.{arith, sym, ap, ◌∙◌, length-append, le-leb}
-use Rattle.std.proofs.Math.Option.{Option, none, some}
+use Rattle.std.proofs.Math.Option.{Option as Maybe, none, some}
 use Rattle.std.proofs.lemmas.Bool.{lt-leb}
 use Rattle.machine.specs.State as St
 use Rattle.machine.specs.Act as A
@@ -11,8 +11,6 @@ use Rattle.machine.specs.Out.{Out, refused, out, out_make, out_refused, Asked}
 use Rattle.value.specs.Lists.{bytes_of, row_length}
 use Rattle.texts.specs.Overwrite.{overwrite, overwrite_bytes, overwrite_length, overwrite_under, overwrite_more}
 use Rattle.texts.specs.Sources.{stores_of}
-use Rattle.texts.specs.declared.Kept.{Kept}
-use Rattle.texts.specs.declared.Kept.TheVariants.{Went, Refused}
 
 abbrev pub text_limit : ℕ
 text_limit = St.limit St.text_store
@@ -20,43 +18,43 @@ text_limit = St.limit St.text_store
 abbrev pub output_limit : ℕ
 output_limit = St.limit St.output_store
 
-abbrev pub AppendsTold : ℕ → List ℕ → ℕ → List ℕ → Kept → List ℕ → Type 0
-AppendsTold limit bs n t (Went k) t' = (k ≡ n + length bs) × (k ≤ limit) × (t' ≡ overwrite t n bs)
-AppendsTold limit bs n t Refused t' = (limit < n + length bs) × (t' ≡ t)
+abbrev pub AppendsTold : ℕ → List ℕ → ℕ → List ℕ → Option ℕ → List ℕ → Type 0
+AppendsTold limit bs n t (Some k) t' = (k ≡ n + length bs) × (k ≤ limit) × (t' ≡ overwrite t n bs)
+AppendsTold limit bs n t None t' = (limit < n + length bs) × (t' ≡ t)
 
 -- The bytes bs stand at place n of a store, which has a limit; or they have no room below it, and nothing is altered.
-pub record Appends (limit : ℕ) (bs : List ℕ) (n : ℕ) (t : List ℕ) (r : Kept) (t' : List ℕ) : Type 0 where
+pub record Appends (limit : ℕ) (bs : List ℕ) (n : ℕ) (t : List ℕ) (r : Option ℕ) (t' : List ℕ) : Type 0 where
   pub told : AppendsTold limit bs n t r t'
 
 -- of the text store, and of the output, which has lines
-abbrev pub Keeps : List ℕ → ℕ → List ℕ → Kept → List ℕ → Type 0
+abbrev pub Keeps : List ℕ → ℕ → List ℕ → Option ℕ → List ℕ → Type 0
 Keeps bs n t r t' = Appends text_limit bs n t r t'
 
-abbrev pub Prints : List ℕ → ℕ → List ℕ → Kept → List ℕ → Type 0
+abbrev pub Prints : List ℕ → ℕ → List ℕ → Option ℕ → List ℕ → Type 0
 Prints bs n t r t' = Appends output_limit (A.line bs) n t r t'
 
 module _ (limit : ℕ) (n : ℕ) (t bs : List ℕ) (k : ℕ) (e : k ≡ length bs) (h : n ≤ limit) where
-  pub appends_full : limit - n < k → Appends limit bs n t Refused t
+  pub appends_full : limit - n < k → Appends limit bs n t None t
   appends_full g = record { told = (omega arith, refl) }
 
-  pub appends_went : (t' : List ℕ) → k ≤ limit - n → t' ≡ overwrite t n bs → Appends limit bs n t (Went (n + k)) t'
+  pub appends_went : (t' : List ℕ) → k ≤ limit - n → t' ≡ overwrite t n bs → Appends limit bs n t (Some (n + k)) t'
   appends_went t' g q = record { told = (ap (λ (x : ℕ). n + x) e, omega arith, q) }
 
-pub went_as : {limit : ℕ} {bs : List ℕ} {n i j : ℕ} {t t' : List ℕ} → i ≡ j → Appends limit bs n t (Went i) t' → Appends limit bs n t (Went j) t'
+pub went_as : {limit : ℕ} {bs : List ℕ} {n i j : ℕ} {t t' : List ℕ} → i ≡ j → Appends limit bs n t (Some i) t' → Appends limit bs n t (Some j) t'
 went_as e q = rw e at q
 
-pub keeps_as : {limit : ℕ} {bs cs : List ℕ} {n : ℕ} {t : List ℕ} {r : Kept} {t' : List ℕ} → bs ≡ cs → Appends limit bs n t r t' → Appends limit cs n t r t'
+pub keeps_as : {limit : ℕ} {bs cs : List ℕ} {n : ℕ} {t : List ℕ} {r : Option ℕ} {t' : List ℕ} → bs ≡ cs → Appends limit bs n t r t' → Appends limit cs n t r t'
 keeps_as e q = rw e at q
 
 -- the answer taken apart
-module _ {limit : ℕ} {bs : List ℕ} {n : ℕ} {t : List ℕ} {r : Kept} {t' : List ℕ} (q : Appends limit bs n t r t') where
-  pub appended : {k : ℕ} → r ≡ Went k → (k ≡ n + length bs) × (k ≤ limit) × (t' ≡ overwrite t n bs)
-  appended {k} e = let x : AppendsTold limit bs n t (Went k) t' = rw e at q.told in x
+module _ {limit : ℕ} {bs : List ℕ} {n : ℕ} {t : List ℕ} {r : Option ℕ} {t' : List ℕ} (q : Appends limit bs n t r t') where
+  pub appended : {k : ℕ} → r ≡ Some k → (k ≡ n + length bs) × (k ≤ limit) × (t' ≡ overwrite t n bs)
+  appended {k} e = let x : AppendsTold limit bs n t (Some k) t' = rw e at q.told in x
 
-  pub full : r ≡ Refused → (limit < n + length bs) × (t' ≡ t)
-  full e = let x : AppendsTold limit bs n t Refused t' = rw e at q.told in x
+  pub full : r ≡ None → (limit < n + length bs) × (t' ≡ t)
+  full e = let x : AppendsTold limit bs n t None t' = rw e at q.told in x
 
-  pub appended_bytes : {k : ℕ} → length t ≡ limit → r ≡ Went k → bytes_of t' k ≡ bytes_of t n ++ bs
+  pub appended_bytes : {k : ℕ} → length t ≡ limit → r ≡ Some k → bytes_of t' k ≡ bytes_of t n ++ bs
   appended_bytes {k} l e =
       let x = appended e in
       ap (λ (y : List ℕ). bytes_of y k) x.2 ∙ ap (λ (y : ℕ). bytes_of (overwrite t n bs) y) x.0 ∙ overwrite_bytes t n bs (omega (arith, x.0, x.1))
@@ -69,9 +67,9 @@ abbrev pub on_output : ℕ → List ℕ → St.State → St.State
 on_output n t s = S.set_output (bytes_of t n) s
 
 -- what a program comes to that goes on from the state that an answer stands for
-abbrev pub kept_then : St.Store → Kept → Program → (ℕ → St.State) → Out
-kept_then q (Went k) p s = out p (s k)
-kept_then q Refused p s = refused q
+abbrev pub kept_then : St.Store → Option ℕ → Program → (ℕ → St.State) → Out
+kept_then q (Some k) p s = out p (s k)
+kept_then q None p s = refused q
 
 -- THE LAW OF KEEPING: an act that puts bs behind what a store q has, and asks nothing else, is made by what appends them to the bytes of q. `put x` is a
 -- state with the bytes x in q.
@@ -82,19 +80,19 @@ module _
   used_by : St.used (put (bytes_of t n)) q ≡ n
   used_by = uses (bytes_of t n) ∙ row_length n (λ i. get_or t i 0)
 
-  asked : (o : Option St.Store) → Asked (put (bytes_of t n)) (A.need q (length bs) ∷ []) o → Asked (put (bytes_of t n)) (A.needs a (put (bytes_of t n))) o
+  asked : (o : Maybe St.Store) → Asked (put (bytes_of t n)) (A.need q (length bs) ∷ []) o → Asked (put (bytes_of t n)) (A.needs a (put (bytes_of t n))) o
   asked o h = rw (asks (bytes_of t n)) h
 
-  appends_act : (r : Kept) → Appends (St.limit q) bs n t r t' → out (make a p) (put (bytes_of t n)) ≡ kept_then q r p (λ k. put (bytes_of t' k))
-  appends_act (Went k) x =
+  appends_act : (r : Option ℕ) → Appends (St.limit q) bs n t r t' → out (make a p) (put (bytes_of t n)) ≡ kept_then q r p (λ k. put (bytes_of t' k))
+  appends_act (Some k) x =
       let fits = ap (λ (u : ℕ). leb (u + length bs) (St.limit q)) used_by ∙ le-leb (n + length bs) (St.limit q) (omega (arith, x.told.0, x.told.1)) in
       out_make (put (bytes_of t n)) a p (sound (bytes_of t n)) (asked none (Asked.yes fits Asked.all))
       ∙ ap (out p) (leaves (bytes_of t n)) ∙ ap (λ (y : List ℕ). out p (put y)) (sym (appended_bytes x l refl))
-  appends_act Refused x =
+  appends_act None x =
       let short = ap (λ (u : ℕ). leb (u + length bs) (St.limit q)) used_by ∙ lt-leb (n + length bs) (St.limit q) x.told.0 in
       out_refused (put (bytes_of t n)) a p q (sound (bytes_of t n)) (asked (some q) (Asked.no short))
 
-module _ (bs : List ℕ) (n : ℕ) (t : List ℕ) (r : Kept) (t' : List ℕ) (s : St.State) (p : Program) where
+module _ (bs : List ℕ) (n : ℕ) (t : List ℕ) (r : Option ℕ) (t' : List ℕ) (s : St.State) (p : Program) where
   pub keeps_act : length t ≡ text_limit → Keeps bs n t r t' → out (make (A.keep_text bs) p) (on_text n t s) ≡ kept_then St.text_store r p (λ k. on_text k t' s)
   keeps_act l x =
       appends_act (A.keep_text bs) St.text_store bs (λ y. S.set_text y s) (λ y. refl) (λ y. refl) (λ y. refl) (λ y. refl) n t t' l p r x
@@ -116,7 +114,7 @@ module _ (c t : List ℕ) (n m : ℕ) (f g : St.Bytes → List ℕ) (h : m ≤ t
     both : x + y ≡ length (one ++ two)
     both = let e = length-append one two in omega arith
 
-    pub join_full : text_limit - m < x + y → Keeps (one ++ two) m t Refused t
+    pub join_full : text_limit - m < x + y → Keeps (one ++ two) m t None t
     join_full q = appends_full text_limit m t (one ++ two) (x + y) both h q
 
     module _ (t' : List ℕ) (e' : t' ≡ overwrite t m one) (fits : x + y ≤ text_limit - m) where
@@ -129,7 +127,7 @@ module _ (c t : List ℕ) (n m : ℕ) (f g : St.Bytes → List ℕ) (h : m ≤ t
           let z = ap length same_second in
           omega arith
 
-      pub join_went : (t'' : List ℕ) → t'' ≡ overwrite t' (m + x) (g (stores_of c n t' m)) → Keeps (one ++ two) m t (Went (m + x + y)) t''
+      pub join_went : (t'' : List ℕ) → t'' ≡ overwrite t' (m + x) (g (stores_of c n t' m)) → Keeps (one ++ two) m t (Some (m + x + y)) t''
       join_went t'' q =
           let z : m + x ≡ m + length one = omega arith in
           let w : t'' ≡ overwrite t m (one ++ two) =

@@ -1,5 +1,5 @@
 -- A line of the output: the texts of some values, a blank between. Assumes nothing.
-use Rattle.std.specs.Prelude.{ℕ, zero, suc, ◌+◌, ◌-◌, ◌*◌, ◌/◌, ◌%◌, ◌≤◌, ◌<◌, List, [], ◌∷◌, ◌++◌, ◌≡◌, refl, length, set}
+use Rattle.std.specs.Prelude.{ℕ, zero, suc, ◌+◌, ◌-◌, ◌*◌, ◌/◌, ◌%◌, ◌≤◌, ◌<◌, List, [], ◌∷◌, ◌++◌, ◌≡◌, refl, length, set, Option, Some, None}
 use Rattle.std.proofs.Common.{arith, append_assoc, sym, ap, ◌∙◌, length-append, length-set}
 use Rattle.machine.specs.Basic.{sum_of}
 use Rattle.machine.specs.Value as M
@@ -13,9 +13,6 @@ use Rattle.texts.specs.Sources.{stores_of}
 use Rattle.texts.specs.Overwrite.{overwrite, overwrite_none, overwrite_length, overwrite_more, overwrite_one}
 use Rattle.texts.specs.Spells.{Sizes}
 use Rattle.texts.specs.Keeps.{output_limit, Prints, appends_full, appends_went, went_as}
-use Rattle.texts.specs.declared.Kept.TheVariants.{Went, Refused}
-use Rattle.texts.specs.declared.output.Measured.{Measured}
-use Rattle.texts.specs.declared.output.Measured.TheVariants.{Bytes, TooMany}
 
 -- the values of `count` rows of three words, from row `from` on
 abbrev pub values_at : List ℕ → ℕ → ℕ → List M.Value
@@ -86,11 +83,11 @@ module _ (m : St.Bytes) (w : List ℕ) (from : ℕ) where
 pub record Summed (n m : ℕ) (w : List ℕ) (from count i size : ℕ) : Type 0 where
   pub sum : (c t : List ℕ) → n ≤ length c → m ≤ length t → size ≡ count - 1 + total (stores_of c n t m) (values_at w from i)
 
-abbrev pub LineTold : ℕ → ℕ → List ℕ → ℕ → ℕ → ℕ → Measured → Type 0
-LineTold n m w from count room (Bytes k) = (k ≤ room) × ((c t : List ℕ) → n ≤ length c → m ≤ length t → k ≡ length (joined (stores_of c n t m) (values_at w from count)))
-LineTold n m w from count room TooMany = (c t : List ℕ) → n ≤ length c → m ≤ length t → room < length (joined (stores_of c n t m) (values_at w from count))
+abbrev pub LineTold : ℕ → ℕ → List ℕ → ℕ → ℕ → ℕ → Option ℕ → Type 0
+LineTold n m w from count room (Some k) = (k ≤ room) × ((c t : List ℕ) → n ≤ length c → m ≤ length t → k ≡ length (joined (stores_of c n t m) (values_at w from count)))
+LineTold n m w from count room None = (c t : List ℕ) → n ≤ length c → m ≤ length t → room < length (joined (stores_of c n t m) (values_at w from count))
 
-pub record MeasuresLine (n m : ℕ) (w : List ℕ) (from count room : ℕ) (r : Measured) : Type 0 where
+pub record MeasuresLine (n m : ℕ) (w : List ℕ) (from count room : ℕ) (r : Option ℕ) : Type 0 where
   pub told : LineTold n m w from count room r
 
 module _ (n m : ℕ) (w : List ℕ) (from count : ℕ) where
@@ -110,7 +107,7 @@ module _ (n m : ℕ) (w : List ℕ) (from count : ℕ) where
     pub summed_more : Summed n m w from count (i + 1) (size + k)
     summed_more = record { sum = next_sum }
 
-    pub line_long : (room : ℕ) → i < count → size ≤ room → room - size < k → MeasuresLine n m w from count room TooMany
+    pub line_long : (room : ℕ) → i < count → size ≤ room → room - size < k → MeasuresLine n m w from count room None
     line_long room h l g = record {
       told = λ c t a b.
           let d : i + 1 + (count - (i + 1)) ≡ count = omega arith in
@@ -118,10 +115,10 @@ module _ (n m : ℕ) (w : List ℕ) (from count : ℕ) where
           omega (arith, next_sum c t a b, z, total_below (stores_of c n t m) w from (i + 1) (count - (i + 1)), whole_length (stores_of c n t m) w from count);
     }
 
-  pub line_blanks : (size room : ℕ) → size ≡ count - 1 → room < size → MeasuresLine n m w from count room TooMany
+  pub line_blanks : (size room : ℕ) → size ≡ count - 1 → room < size → MeasuresLine n m w from count room None
   line_blanks size room e g = record { told = λ c t a b. omega (arith, whole_length (stores_of c n t m) w from count) }
 
-  pub line_whole : (i size room : ℕ) → i ≡ count → size ≤ room → Summed n m w from count i size → MeasuresLine n m w from count room (Bytes size)
+  pub line_whole : (i size room : ℕ) → i ≡ count → size ≤ room → Summed n m w from count i size → MeasuresLine n m w from count room (Some size)
   line_whole i size room e l s = record {
     told = (
       l,
@@ -196,11 +193,11 @@ module _ (i : ℕ) (t : List ℕ) where
 
 -- the two bytes of the length, and the line
 module _ (o size : ℕ) (d bs : List ℕ) (l : length d ≡ output_limit) (h : o ≤ output_limit) (e : size ≡ length bs) where
-  pub print_full : output_limit < o + (2 + size) → Prints bs o d Refused d
+  pub print_full : output_limit < o + (2 + size) → Prints bs o d None d
   print_full g = appends_full output_limit o d (A.line bs) (2 + size) (omega arith) h (omega arith)
 
   pub print_went : (a b : ℕ) (d' : List ℕ) → o + 2 + size ≤ output_limit → a ≡ size / 256 → b ≡ size % 256
-      → d' ≡ overwrite (set (set d o a) (o + 1) b) (o + 2) bs → Prints bs o d (Went (o + 2 + size)) d'
+      → d' ≡ overwrite (set (set d o a) (o + 1) b) (o + 2) bs → Prints bs o d (Some (o + 2 + size)) d'
   print_went a b d' g ea eb q =
       let k = length-set d o a in
       let x : set (set d o a) (o + 1) b ≡ overwrite d o (a ∷ b ∷ []) =
@@ -214,9 +211,9 @@ module _ (o size : ℕ) (d bs : List ℕ) (l : length d ≡ output_limit) (h : o
       went_as s (appends_went output_limit o d (A.line bs) (2 + size) (omega arith) h d' (omega arith) z)
 
 -- the measure taken apart
-module _ {n m : ℕ} {w : List ℕ} {from count room : ℕ} {r : Measured} (q : MeasuresLine n m w from count room r) where
-  pub measured : {k : ℕ} → r ≡ Bytes k → LineTold n m w from count room (Bytes k)
+module _ {n m : ℕ} {w : List ℕ} {from count room : ℕ} {r : Option ℕ} (q : MeasuresLine n m w from count room r) where
+  pub measured : {k : ℕ} → r ≡ Some k → LineTold n m w from count room (Some k)
   measured e = rw e at q.told
 
-  pub too_many : r ≡ TooMany → LineTold n m w from count room TooMany
+  pub too_many : r ≡ None → LineTold n m w from count room None
   too_many e = rw e at q.told

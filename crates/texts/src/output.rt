@@ -9,8 +9,7 @@ ghost use Rattle.texts.specs.Spells.{Sizes, Writes};
 ghost use Rattle.texts.specs.Keeps.{output_limit, Prints};
 ghost use Rattle.texts.specs.Lines.{values_at, gap, MeasuresLine};
 
-use crate::{Kept, OUTPUT_LIMIT, copy, spell};
-use number::format::Formatted;
+use crate::{OUTPUT_LIMIT, copy, spell};
 use value::Value;
 
 /// How many bytes the text of a value has.
@@ -37,12 +36,6 @@ pub fn write_value<'a>(
     spell::write_spelling(code, n, text, m, spell::spell_value(v), dest, at)
 }
 
-#[derive(Clone, Copy)]
-pub enum Measured {
-    Bytes(usize),
-    TooMany,
-}
-
 fn blanks(count: usize) -> usize
     ensures { result ≡ count - 1 }
 {
@@ -60,24 +53,24 @@ pub fn line_size(
     from: usize,
     count: usize,
     room: usize,
-) -> Measured
+) -> Option<usize>
     requires { 3 * (from + count) ≤ length stacks.now }
     ensures { MeasuresLine n m stacks.now from count room result }
 {
     let mut size = blanks(count);
     if room < size {
-        return Measured::TooMany;
+        return None;
     }
     let mut i: usize = 0;
     while i < count {
         let k = size_of_value(n, m, value::read(stacks, 3 * (from + i)));
         if room - size < k {
-            return Measured::TooMany;
+            return None;
         }
         size += k;
         i += 1;
     }
-    Measured::Bytes(size)
+    Some(size)
 }
 
 // Value i of a line: a blank first, unless it is the first value.
@@ -146,35 +139,35 @@ pub fn print<'a>(
     count: usize,
     output: &mut [u8],
     o: usize,
-) -> Kept
+) -> Option<usize>
     requires in_use { InUse code.now n text.now m }
     requires count_in_bounds { 3 * (from + count) ≤ length stacks.now }
     requires o_le_output_limit { (o ≤ output_limit) × (length output.old ≡ output_limit) }
     ensures { Prints (joined (stores_of code.now n text.now m) (values_at stacks.now from count)) o output.old result output.new }
 {
     if OUTPUT_LIMIT - o < 2 {
-        return Kept::Refused;
+        return None;
     }
     let at = o + 2;
-    let Measured::Bytes(size) = line_size(n, m, stacks, from, count, OUTPUT_LIMIT - at) else {
-        return Kept::Refused;
+    let Some(size) = line_size(n, m, stacks, from, count, OUTPUT_LIMIT - at) else {
+        return None;
     };
     output[o] = (size / 256) as u8;
     output[o + 1] = (size % 256) as u8;
     write_line(code, n, text, m, stacks, from, count, output, at);
-    Kept::Went(at + size)
+    Some(at + size)
 }
 
 /// Bytes written to the start of a buffer, or that it is too short; the rest of it, and a buffer that is too short, stay as they are.
-pub fn write_bytes(bytes: &[u8], buffer: &mut [u8]) -> Formatted
+pub fn write_bytes(bytes: &[u8], buffer: &mut [u8]) -> Option<usize>
     ensures { Writes bytes.now buffer.old result buffer.new }
 {
     let size = bytes.len();
     if buffer.len() < size {
-        return Formatted::TooShort;
+        return None;
     }
     copy(buffer, 0, bytes);
-    Formatted::Bytes(size)
+    Some(size)
 }
 
 /// The same for the text of a value.
@@ -185,15 +178,15 @@ pub fn write_text<'a>(
     m: usize,
     v: Value,
     buffer: &mut [u8],
-) -> Formatted
+) -> Option<usize>
     requires { InUse code.now n text.now m }
     ensures { Writes (to_js_string (stores_of code.now n text.now m) (value_of v)) buffer.old result buffer.new }
 {
     let s = spell::spell_value(v);
     let count = spell::spelling_size(n, m, s);
     if buffer.len() < count {
-        return Formatted::TooShort;
+        return None;
     }
     spell::write_spelling(code, n, text, m, s, buffer, 0);
-    Formatted::Bytes(count)
+    Some(count)
 }

@@ -10,9 +10,9 @@ ghost use Rattle.texts.specs.Overwrite.{overwrite};
 ghost use Rattle.texts.specs.Spells.{word_text, laid_out, spelling_bytes, Says, Sized, Spells};
 ghost use Rattle.texts.specs.Keeps.{text_limit, Keeps};
 
-use crate::{Kept, Source, TEXT_LIMIT, copy, copy_own, locate, size_of};
+use crate::{Source, TEXT_LIMIT, copy, copy_own, locate, size_of};
+use number::JsNumber;
 use number::format::{LONGEST_TEXT, Layout};
-use number::{JsNumber, format};
 use value::Value;
 
 /// The words that a value or its type is spelled by; an object that is a value is `[object Object]`.
@@ -126,7 +126,7 @@ pub fn spelling_size(n: usize, m: usize, s: Spelling) -> usize
     match s {
         Spelling::Code(at, size) => size_of(n, m, 0, Source::Code(at, size)),
         Spelling::Text(at, size) => size_of(n, m, 0, Source::Text(at, size)),
-        Spelling::Number(l) => format::size(l),
+        Spelling::Number(l) => l.size(),
         Spelling::Word(w) => word_size(w),
     }
 }
@@ -158,7 +158,7 @@ pub fn write_spelling<'a>(
             let end = p.to;
             put(dest, to, &text[from..end])
         }
-        Spelling::Number(l) => format::write(l, dest, to),
+        Spelling::Number(l) => l.write(dest, to),
         Spelling::Word(w) => write_word(w, dest, to),
     }
 }
@@ -191,7 +191,7 @@ pub(crate) fn append_spelling(
             return;
         }
         Spelling::Number(l) => {
-            format::write(l, text, e);
+            l.write(text, e);
             return;
         }
         Spelling::Word(w) => {
@@ -209,13 +209,20 @@ pub fn to_js_string(v: Value, buffer: &mut [u8; LONGEST_TEXT]) -> Source
     match s {
         Spelling::Code(at, size) => Source::Code(at, size),
         Spelling::Text(at, size) => Source::Text(at, size),
-        Spelling::Number(l) => Source::Buffer(format::write(l, buffer, 0) as u64),
+        Spelling::Number(l) => Source::Buffer(l.write(buffer, 0) as u64),
         Spelling::Word(w) => Source::Buffer(write_word(w, buffer, 0) as u64),
     }
 }
 
 /// The texts of two values kept as one.
-pub fn keep_joined(code: &[u8], n: usize, text: &mut [u8], m: usize, v: Value, u: Value) -> Kept
+pub fn keep_joined(
+    code: &[u8],
+    n: usize,
+    text: &mut [u8],
+    m: usize,
+    v: Value,
+    u: Value,
+) -> Option<usize>
     requires n_in_bounds { n ≤ length code.now }
     requires m_le_text_limit { (m ≤ text_limit) × (length text.old ≡ text_limit) }
     ensures { Keeps (to_js_string (stores_of code.now n text.old m) (value_of v) ++ to_js_string (stores_of code.now n text.old m) (value_of u)) m text.old result text.new }
@@ -225,19 +232,19 @@ pub fn keep_joined(code: &[u8], n: usize, text: &mut [u8], m: usize, v: Value, u
     let x = spelling_size(n, m, a);
     let y = spelling_size(n, m, b);
     if TEXT_LIMIT - m < x {
-        return Kept::Refused;
+        return None;
     }
     let e = m + x;
     if TEXT_LIMIT - e < y {
-        return Kept::Refused;
+        return None;
     }
     append_spelling(code, n, text, m, a, m);
     append_spelling(code, n, text, m, b, e);
-    Kept::Went(e + y)
+    Some(e + y)
 }
 
 /// The word for a value's type kept.
-pub fn keep_typeof(code: &[u8], n: usize, text: &mut [u8], m: usize, v: Value) -> Kept
+pub fn keep_typeof(code: &[u8], n: usize, text: &mut [u8], m: usize, v: Value) -> Option<usize>
     requires n_in_bounds { n ≤ length code.now }
     requires m_le_text_limit { (m ≤ text_limit) × (length text.old ≡ text_limit) }
     ensures { Keeps (js_typeof (value_of v)) m text.old result text.new }
@@ -245,8 +252,8 @@ pub fn keep_typeof(code: &[u8], n: usize, text: &mut [u8], m: usize, v: Value) -
     let w = type_word(v);
     let size = word_size(w);
     if TEXT_LIMIT - m < size {
-        return Kept::Refused;
+        return None;
     }
     write_word(w, text, m);
-    Kept::Went(m + size)
+    Some(m + size)
 }

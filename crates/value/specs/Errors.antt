@@ -5,6 +5,9 @@ use Rattle.value.specs.declared.JsVmError.{JsVmError}
 use Rattle.value.specs.declared.JsVmError.TheVariants.{ExecutionLimitExceeded, UnknownOpcode, IpOutOfBounds, StackUnderflow, StackOverflow, UncaughtException, NotCallable, InvalidFunctionId, NoCallFrame}
 use Rattle.value.specs.declared.Space.{Space}
 use Rattle.value.specs.declared.Space.TheVariants.{Frames, Slots, Handlers, Functions, Objects, Properties, Globals, Text, Output}
+use Rattle.std.specs.Prelude.{ℕ}
+use Rattle.value.specs.declared.Stop.{Stop}
+use Rattle.value.specs.declared.Stop.TheVariants.{Failed, Refused}
 use Rattle.value.specs.Words.{value_of}
 
 abbrev pub error_of : JsVmError → M.JsVmError
@@ -28,3 +31,8 @@ space_of Properties = St.property_store
 space_of Globals = St.global_store
 space_of Text = St.text_store
 space_of Output = St.output_store
+
+-- document 01's number of what stops an act
+abbrev pub stop_number : Stop → ℕ
+stop_number (Failed e) = M.error_number (error_of e)
+stop_number (Refused q) = St.question (space_of q)

@@ -1,5 +1,5 @@
 -- THE PROMISE of change 2 for the code: over every list of calls from a begin, each call as its contract says. Assumes nothing.
-use Rattle.std.specs.Prelude.{◌≡◌, refl, ◌⊎◌, List, [], ◌∷◌, ℕ, ◌≤◌, length, take, drop}
+use Rattle.std.specs.Prelude.{◌≡◌, refl, ◌⊎◌, List, [], ◌∷◌, ℕ, ◌≤◌, length, take, drop, Result, Ok, Err}
 use Rattle.std.proofs.Common.{sym, ap, ◌∙◌, subst}
 use Rattle.std.proofs.Math.Option.{Option, none, some, none-ne-some}
 use Rattle.machine.specs.Demand3.{All}
@@ -8,25 +8,24 @@ use Rattle.machine.specs.Writer as W
 use Rattle.machine.proofs.Writes.{Holds, Given}
 use Rattle.machine.proofs.Writer.{Kept, holds, kept_call_lem, always_in_place, begin_anew_lem, refused_by, call_writes, past_stays, image_is, equal_bytes, equal_templates}
 use Rattle.writer.specs.declared.Writer.{Writer}
-use Rattle.writer.specs.declared.Written.{Written}
-use Rattle.writer.specs.declared.Written.TheVariants.{Wrote, Refused}
+use Rattle.writer.specs.declared.WriteError.{WriteError}
 use Rattle.writer.specs.View.{session_of, refusal, left, Does}
 
 -- Each call comes on the writer and the buffer that the last one left; refused calls are in the list.
 pub data Made : Writer → List ℕ → List W.Call → Writer → List ℕ → Type 0 where
   done : {w : Writer} {b : List ℕ} → Made w b [] w b
-  then : {c : W.Call} {cs : List W.Call} {w y : Writer} {r : Written} {b b' b'' : List ℕ} → Does c w b r b' → Made (left r w) b' cs y b'' → Made w b (c ∷ cs) y b''
+  then : {c : W.Call} {cs : List W.Call} {w y : Writer} {r : Result Writer WriteError} {b b' b'' : List ℕ} → Does c w b r b' → Made (left r w) b' cs y b'' → Made w b (c ∷ cs) y b''
 
 -- What a call does where ts are the templates so far: its answer is the machine's; refused, by 34 or 31, it alters nothing; what is written is the bytes of the
 -- templates then, with right counts; and the bytes past those written stay.
-pub record Promised (c : W.Call) (w : Writer) (b : List ℕ) (ts : List Template) (r : Written) (b' : List ℕ) : Type 0 where
+pub record Promised (c : W.Call) (w : Writer) (b : List ℕ) (ts : List Template) (r : Result Writer WriteError) (b' : List ℕ) : Type 0 where
   pub answered : refusal r ≡ W.asked c (session_of w b)
   pub refused : (n : ℕ) → refusal r ≡ some n → (left r w ≡ w) × (b' ≡ b) × ((n ≡ 34) ⊎ (n ≡ 31))
   pub session : session_of (left r w) b' ≡ W.perform c (session_of w b)
   pub kept : Kept (session_of (left r w) b') (W.grown (W.asked c (session_of w b)) c ts)
   pub past : drop (left r w).size b' ≡ drop (left r w).size b
 
-module _ {c : W.Call} {w : Writer} {b : List ℕ} {r : Written} {b' : List ℕ} {ts : List Template} (k : Kept (session_of w b) ts) (g : Given c) (d : Does c w b r b') where
+module _ {c : W.Call} {w : Writer} {b : List ℕ} {r : Result Writer WriteError} {b' : List ℕ} {ts : List Template} (k : Kept (session_of w b) ts) (g : Given c) (d : Does c w b r b') where
   abbrev s : W.Session
   s = session_of w b
 
@@ -36,9 +35,9 @@ module _ {c : W.Call} {w : Writer} {b : List ℕ} {r : Written} {b' : List ℕ} 
   does : session_of (left r w) b' ≡ W.perform c s
   does = d.session ∙ ap (λ q. W.performed q c s) (always_in_place c s ts k)
 
-  stays : (x : Written) (n : ℕ) → refusal x ≡ some n → left x w ≡ w
-  stays (Wrote y) n e = absurd (none-ne-some n e)
-  stays (Refused m) n e = refl
+  stays : (x : Result Writer WriteError) (n : ℕ) → refusal x ≡ some n → left x w ≡ w
+  stays (Ok y) n e = absurd (none-ne-some n e)
+  stays (Err x) n e = refl
 
   abbrev Past : W.Session → Type 0
   Past t = drop t.writer.size t.buffer ≡ drop t.writer.size b
@@ -84,7 +83,7 @@ image_of y b = take y.size b
 
 module _ {w y : Writer} {b b'' : List ℕ} {cs : List W.Call} (m : Made w b (W.begin ∷ cs) y b'') (h : 2 ≤ length b) (g : All Given cs) where
   -- every further call, on what the list left
-  pub then_promised : {c : W.Call} {r : Written} {b''' : List ℕ} → Given c → Does c y b'' r b''' → Promised c y b'' (added_by w b cs) r b'''
+  pub then_promised : {c : W.Call} {r : Result Writer WriteError} {b''' : List ℕ} → Given c → Does c y b'' r b''' → Promised c y b'' (added_by w b cs) r b'''
   then_promised gc d = call_promised (holds (begun_holds m h g)) gc d
 
   pub image_written : image_of y b'' ≡ encode (added_by w b cs)

@@ -1,18 +1,94 @@
 //! Change 2 of document 02: an image written into a lent buffer, call by call. The host keeps the writer between the calls.
 #![tactic(auto)]
 
-ghost use Rattle.std.specs.Prelude.{◌≡◌, true, ◌&&◌, List, ◌++◌, ℕ, ◌+◌, ◌/◌, ◌%◌, ◌≤◌, length, leb};
+ghost use Rattle.std.specs.Prelude.{◌≡◌, true, false, List, Some, ◌++◌, ℕ, ◌+◌, ◌≤◌, ◌<◌, length, MatchResult};
 ghost use Rattle.machine.specs.Format as F;
 ghost use Rattle.machine.specs.Writer as W;
 ghost use Rattle.number.specs.Overwrite.{overwrite};
-ghost use Rattle.writer.specs.View.{stage_of, writer_of, takes_in, Does};
+ghost use Rattle.writer.specs.declared.WriteError.TheVariants.{IllFormed, BufferTooShort};
+ghost use Rattle.writer.specs.View.{stage_of, stage_by, stage_number, writer_of, takes_in, number_of, text_of, Does};
 
+use std::error::Error;
+use std::fmt;
+use std::num::TryFromIntError;
 use texts::copy;
 
-// What the host keeps. The stage is 0 before a begin, 1 with no template, 2 while a template is open, 3 behind its code, 4 when finished; then come the bytes
-// written, the templates, where the newest one starts, and its constants. A writer of zeros is one before a begin.
-#[repr(C)]
+/// Why a call is refused, by document 02's number; a refused call alters nothing.
+#[derive(Clone, Copy, Debug, PartialEq, Eq)]
+pub enum WriteError {
+    /// The call comes out of its order, or a count or a length does not fit two bytes.
+    IllFormed = 34,
+    /// The buffer does not hold what the call writes. Asked last.
+    BufferTooShort = 31,
+}
+
+impl From<WriteError> for u64 {
+    ghost from_gives = { λ e n. n ≡ number_of e };
+
+    fn from(e: WriteError) -> u64 {
+        e as u64
+    }
+}
+
+// Of a count that does not fit two bytes.
+impl From<TryFromIntError> for WriteError {
+    ghost from_gives = { λ _ e. e ≡ IllFormed };
+
+    fn from(_e: TryFromIntError) -> WriteError {
+        WriteError::IllFormed
+    }
+}
+
+impl fmt::Display for WriteError {
+    ghost output = { λ e. Some (text_of e) };
+
+    fn fmt<W: fmt::Write>(&self, f: &mut fmt::Formatter<W>) -> fmt::Result {
+        f.write_str(match self {
+            WriteError::IllFormed => "a call out of order, or a count or length above 65,535",
+            WriteError::BufferTooShort => "the buffer is too short",
+        })
+    }
+}
+
+impl Error for WriteError {}
+
+/// How far an image is: before a begin; with no template; with a template open for constants and code; behind its code; finished.
 #[derive(Clone, Copy)]
+enum Stage {
+    Unbegun = 0,
+    Begun = 1,
+    Opened = 2,
+    Coded = 3,
+    Finished = 4,
+}
+
+impl From<Stage> for u64 {
+    ghost from_gives = { λ g n. n ≡ stage_number (stage_by g) };
+
+    fn from(g: Stage) -> u64 {
+        g as u64
+    }
+}
+
+// The host may hand in any number.
+impl From<u64> for Stage {
+    ghost from_gives = { λ n g. stage_by g ≡ stage_of n };
+
+    fn from(n: u64) -> Stage {
+        match n {
+            0 => Stage::Unbegun,
+            1 => Stage::Begun,
+            2 => Stage::Opened,
+            3 => Stage::Coded,
+            _ => Stage::Finished,
+        }
+    }
+}
+
+/// What the host keeps: the number of the stage, the bytes written, the templates, where the newest one starts, and its constants. A writer of zeros is one
+/// before a begin.
+#[repr(C)]
+#[derive(Clone, Copy, Default)]
 pub struct Writer {
     pub stage: u64,
     pub size: usize,
@@ -21,266 +97,169 @@ pub struct Writer {
     pub constants: usize,
 }
 
-// Refused by 34 or 31.
-#[derive(Clone, Copy)]
-pub enum Written {
-    Wrote(Writer),
-    Refused(u64),
-}
-
-fn low(n: u64) -> u8
-    ensures { result ≡ n % 256 }
-{
-    (n % 256) as u8
-}
-
-fn high(n: usize) -> u8
-    requires { n ≤ 65535 }
-    ensures { result ≡ n / 256 }
-{
-    (n / 256) as u8
-}
-
-fn lower(n: usize) -> u8
-    ensures { result ≡ n % 256 }
-{
-    (n % 256) as u8
-}
-
-fn put_word(buffer: &mut [u8], at: usize, n: usize)
-    requires at_in_bounds { at + 2 ≤ length buffer.old }
-    requires n_bound { n ≤ 65535 }
+// A count in two bytes.
+fn put_word(buffer: &mut [u8], at: usize, n: u16)
+    requires { at + 2 ≤ length buffer.old }
     ensures { buffer.new ≡ overwrite buffer.old at (F.word n) }
 {
-    let hi = high(n);
-    let lo = lower(n);
-    buffer[at] = hi;
-    buffer[at + 1] = lo;
+    copy(buffer, at, &n.to_be_bytes());
 }
 
-// Do k more bytes fit a buffer of n?
-fn room(n: usize, size: usize, k: usize) -> bool
-    ensures { result ≡ leb (size + k) n }
-{
-    if n < k {
-        return false;
-    }
-    size <= n - k
-}
-
-fn underway(w: Writer) -> bool
-    ensures { result ≡ W.underway (stage_of w.stage) }
-{
-    if w.stage == 0 {
-        return false;
-    }
-    w.stage <= 3
-}
-
-// Is a template open, its eight bytes among those written?
-fn takes(w: Writer) -> bool
-    ensures { result ≡ takes_in (writer_of w) }
-{
-    if w.size < 8 {
-        return false;
-    }
-    if w.size - 8 < w.at {
-        return false;
-    }
-    w.stage == 2
-}
-
-fn fits_template(w: Writer, parameters: u64, locals: u64) -> bool
-    ensures { result ≡ (W.underway (stage_of w.stage) && W.counts_fit (W.template parameters locals) (writer_of w)) }
-{
-    if underway(w) {
-        if 65535 <= w.templates {
-            return false;
+impl Writer {
+    // Where k more bytes end, in a buffer of n.
+    fn room(self, n: usize, k: usize) -> Result<usize, WriteError>
+        ensures { MatchResult result (λ end. (end ≡ self.size + k) × (end ≤ n)) (λ e. (n < self.size + k) × (e ≡ BufferTooShort)) }
+    {
+        match self.size.checked_add(k) {
+            Some(end) if end <= n => Ok(end),
+            _ => Err(WriteError::BufferTooShort),
         }
-        if 65535 < parameters {
-            return false;
+    }
+
+    // Begun and not finished?
+    fn underway(self) -> Result<(), WriteError>
+        ensures { MatchResult result (λ _. W.underway (stage_of self.stage) ≡ true) (λ e. (W.underway (stage_of self.stage) ≡ false) × (e ≡ IllFormed)) }
+    {
+        match Stage::from(self.stage) {
+            Stage::Begun | Stage::Opened | Stage::Coded => Ok(()),
+            Stage::Unbegun | Stage::Finished => Err(WriteError::IllFormed),
         }
-        return locals <= 65535;
     }
-    false
-}
 
-pub fn begin(buffer: &mut [u8]) -> Written
-    ensures { (w : Writer) → Does W.begin w buffer.old result buffer.new }
-{
-    if buffer.len() < 2 {
-        return Written::Refused(31);
-    }
-    put_word(buffer, 0, 0);
-    Written::Wrote(Writer {
-        stage: 1,
-        size: 2,
-        templates: 0,
-        at: 0,
-        constants: 0,
-    })
-}
-
-pub fn template(w: Writer, buffer: &mut [u8], parameters: u64, locals: u64) -> Written
-    ensures { Does (W.template parameters locals) w buffer.old result buffer.new }
-{
-    if fits_template(w, parameters, locals) {
-        let p = w.size;
-        if room(buffer.len(), p, 8) {
-            let count = w.templates + 1;
-            put_word(buffer, p, parameters as usize);
-            put_word(buffer, p + 2, locals as usize);
-            put_word(buffer, p + 4, 0);
-            put_word(buffer, p + 6, 0);
-            put_word(buffer, 0, count);
-            return Written::Wrote(Writer {
-                stage: 2,
-                size: p + 8,
-                templates: count,
-                at: p,
-                constants: 0,
-            });
+    // Is a template open, its eight bytes among those written?
+    fn takes(self) -> Result<(), WriteError>
+        ensures { MatchResult result (λ _. (self.at + 8 ≤ self.size) × (self.stage ≡ 2)) (λ e. (takes_in (writer_of self) ≡ false) × (e ≡ IllFormed)) }
+    {
+        match (Stage::from(self.stage), self.size.checked_sub(8)) {
+            (Stage::Opened, Some(last)) if self.at <= last => Ok(()),
+            _ => Err(WriteError::IllFormed),
         }
-        return Written::Refused(31);
     }
-    Written::Refused(34)
-}
 
-// A constant whose bytes are those of head and body.
-fn constant(w: Writer, buffer: &mut [u8], head: &[u8], body: &[u8]) -> Written
-    requires { (length head.now ≤ 9) × (length body.now ≤ 65535) }
-    ensures { (c : F.Constant) → W.small_constant c ≡ true → F.constant_bytes c ≡ head.now ++ body.now → Does (W.constant c) w buffer.old result buffer.new }
-{
-    if takes(w) {
-        if 65535 <= w.constants {
-            return Written::Refused(34);
+    /// Starts an image, whatever was written before.
+    pub fn begin(buffer: &mut [u8]) -> Result<Writer, WriteError>
+        ensures { (w : Writer) → Does W.begin w buffer.old result buffer.new }
+    {
+        if buffer.len() < 2 {
+            return Err(WriteError::BufferTooShort);
         }
-        let first = head.len();
-        let size = first + body.len();
-        if room(buffer.len(), w.size, size) {
-            let end = w.size + size;
-            let p = w.size - 2;
-            let count = w.constants + 1;
-            copy(buffer, p, head);
-            copy(buffer, p + first, body);
-            put_word(buffer, p + size, 0);
-            put_word(buffer, w.at + 4, count);
-            return Written::Wrote(Writer {
-                stage: 2,
-                size: end,
-                templates: w.templates,
-                at: w.at,
-                constants: count,
-            });
-        }
-        return Written::Refused(31);
+        put_word(buffer, 0, 0);
+        Ok(Writer {
+            stage: Stage::Begun.into(),
+            size: 2,
+            ..Writer::default()
+        })
     }
-    Written::Refused(34)
-}
 
-pub fn number(w: Writer, buffer: &mut [u8], bits: u64) -> Written
-    ensures { Does (W.constant (F.number bits)) w buffer.old result buffer.new }
-{
-    let a = bits / 256;
-    let b = a / 256;
-    let c = b / 256;
-    let d = c / 256;
-    let e = d / 256;
-    let f = e / 256;
-    let g = f / 256;
-    let head = [
-        0,
-        low(g),
-        low(f),
-        low(e),
-        low(d),
-        low(c),
-        low(b),
-        low(a),
-        low(bits),
-    ];
-    constant(w, buffer, &head, b"")
-}
-
-pub fn text(w: Writer, buffer: &mut [u8], bytes: &[u8]) -> Written
-    ensures { Does (W.constant (F.text bytes.now)) w buffer.old result buffer.new }
-{
-    let n = bytes.len();
-    if 65535 < n {
-        return Written::Refused(34);
+    /// Opens a template, with no constants and empty code. The counts are wider than their two bytes, so that one above 65,535 is refused.
+    pub fn template(
+        self,
+        buffer: &mut [u8],
+        parameters: u64,
+        locals: u64,
+    ) -> Result<Writer, WriteError>
+        ensures { Does (W.template parameters locals) self buffer.old result buffer.new }
+    {
+        self.underway()?;
+        let count = u16::try_from(self.templates.saturating_add(1))?;
+        let parameters = u16::try_from(parameters)?;
+        let locals = u16::try_from(locals)?;
+        let size = self.room(buffer.len(), 8)?;
+        let at = self.size;
+        put_word(buffer, at, parameters);
+        put_word(buffer, at + 2, locals);
+        put_word(buffer, at + 4, 0);
+        put_word(buffer, at + 6, 0);
+        put_word(buffer, 0, count);
+        Ok(Writer {
+            stage: Stage::Opened.into(),
+            size,
+            templates: usize::from(count),
+            at,
+            constants: 0,
+        })
     }
-    let head = [1, high(n), lower(n)];
-    constant(w, buffer, &head, bytes)
-}
 
-pub fn boolean(w: Writer, buffer: &mut [u8], b: bool) -> Written
-    ensures { Does (W.constant (F.boolean b)) w buffer.old result buffer.new }
-{
-    if b {
-        return constant(w, buffer, &[2, 1], b"");
+    // A constant of the open template, by its bytes: those of head and body. It goes before the code's count, which moves behind it.
+    fn constant(self, buffer: &mut [u8], head: &[u8], body: &[u8]) -> Result<Writer, WriteError>
+        ensures { (c : F.Constant) → W.small_constant c ≡ true → F.constant_bytes c ≡ head.now ++ body.now → Does (W.constant c) self buffer.old result buffer.new }
+    {
+        self.takes()?;
+        let count = u16::try_from(self.constants.saturating_add(1))?;
+        let size = self.room(buffer.len(), head.len() + body.len())?;
+        let at = self.size - 2;
+        copy(buffer, at, head);
+        copy(buffer, at + head.len(), body);
+        put_word(buffer, size - 2, 0);
+        put_word(buffer, self.at + 4, count);
+        Ok(Writer {
+            size,
+            constants: usize::from(count),
+            ..self
+        })
     }
-    constant(w, buffer, &[2, 0], b"")
-}
 
-pub fn null(w: Writer, buffer: &mut [u8]) -> Written
-    ensures { Does (W.constant F.null) w buffer.old result buffer.new }
-{
-    constant(w, buffer, &[3], b"")
-}
-
-pub fn undefined(w: Writer, buffer: &mut [u8]) -> Written
-    ensures { Does (W.constant F.undefined) w buffer.old result buffer.new }
-{
-    constant(w, buffer, &[4], b"")
-}
-
-pub fn function(w: Writer, buffer: &mut [u8], template: u64) -> Written
-    ensures { Does (W.constant (F.function template)) w buffer.old result buffer.new }
-{
-    if 65535 < template {
-        return Written::Refused(34);
+    pub fn number(self, buffer: &mut [u8], bits: u64) -> Result<Writer, WriteError>
+        ensures { Does (W.constant (F.number bits)) self buffer.old result buffer.new }
+    {
+        self.constant(buffer, &[0], &bits.to_be_bytes())
     }
-    let t = template as usize;
-    let head = [5, high(t), lower(t)];
-    constant(w, buffer, &head, b"")
-}
 
-pub fn code(w: Writer, buffer: &mut [u8], bytes: &[u8]) -> Written
-    ensures { Does (W.code bytes.now) w buffer.old result buffer.new }
-{
-    let n = bytes.len();
-    if 65535 < n {
-        return Written::Refused(34);
+    pub fn text(self, buffer: &mut [u8], bytes: &[u8]) -> Result<Writer, WriteError>
+        ensures { Does (W.constant (F.text bytes.now)) self buffer.old result buffer.new }
+    {
+        let [high, low] = u16::try_from(bytes.len())?.to_be_bytes();
+        self.constant(buffer, &[1, high, low], bytes)
     }
-    if takes(w) {
-        if room(buffer.len(), w.size, n) {
-            let p = w.size - 2;
-            put_word(buffer, p, n);
-            copy(buffer, p + 2, bytes);
-            return Written::Wrote(Writer {
-                stage: 3,
-                size: w.size + n,
-                templates: w.templates,
-                at: w.at,
-                constants: w.constants,
-            });
-        }
-        return Written::Refused(31);
-    }
-    Written::Refused(34)
-}
 
-pub fn finish(w: Writer) -> Written
-    ensures { (b : List ℕ) → Does W.finish w b result b }
-{
-    if underway(w) {
-        return Written::Wrote(Writer {
-            stage: 4,
-            size: w.size,
-            templates: w.templates,
-            at: w.at,
-            constants: w.constants,
-        });
+    pub fn boolean(self, buffer: &mut [u8], b: bool) -> Result<Writer, WriteError>
+        ensures { Does (W.constant (F.boolean b)) self buffer.old result buffer.new }
+    {
+        self.constant(buffer, &[2, u8::from(b)], &[])
     }
-    Written::Refused(34)
+
+    pub fn null(self, buffer: &mut [u8]) -> Result<Writer, WriteError>
+        ensures { Does (W.constant F.null) self buffer.old result buffer.new }
+    {
+        self.constant(buffer, &[3], &[])
+    }
+
+    pub fn undefined(self, buffer: &mut [u8]) -> Result<Writer, WriteError>
+        ensures { Does (W.constant F.undefined) self buffer.old result buffer.new }
+    {
+        self.constant(buffer, &[4], &[])
+    }
+
+    pub fn function(self, buffer: &mut [u8], template: u64) -> Result<Writer, WriteError>
+        ensures { Does (W.constant (F.function template)) self buffer.old result buffer.new }
+    {
+        self.constant(buffer, &[5], &u16::try_from(template)?.to_be_bytes())
+    }
+
+    /// The open template's code, whole and once.
+    pub fn code(self, buffer: &mut [u8], bytes: &[u8]) -> Result<Writer, WriteError>
+        ensures { Does (W.code bytes.now) self buffer.old result buffer.new }
+    {
+        self.takes()?;
+        let count = u16::try_from(bytes.len())?;
+        let size = self.room(buffer.len(), bytes.len())?;
+        put_word(buffer, self.size - 2, count);
+        copy(buffer, self.size, bytes);
+        Ok(Writer {
+            stage: Stage::Coded.into(),
+            size,
+            ..self
+        })
+    }
+
+    /// Ends the image, and writes nothing.
+    pub fn finish(self) -> Result<Writer, WriteError>
+        ensures { (b : List ℕ) → Does W.finish self b result b }
+    {
+        self.underway()?;
+        Ok(Writer {
+            stage: Stage::Finished.into(),
+            ..self
+        })
+    }
 }

@@ -50,7 +50,7 @@ fn write_examples(t: Tally, stored: &[u8]) -> Tally {
 fn main() {
     let mut input: [u8; 1024] = [0; 1024];
     let n = io::read_full(0, &mut input);
-    let t = write_examples(rows::unbegun(0, 0), &input[..n]);
+    let t = write_examples(Tally::default(), &input[..n]);
     let t = rows::all(t);
     say(b"calls: ", t.calls);
     say(b" compared, ", t.differ);

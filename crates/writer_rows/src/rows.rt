@@ -1,7 +1,6 @@
 //! Each question of the image writer, answered no and, beside it, just yes: 34 out of order and at 65,535 and 65,536 of each count and length, 31 with a byte
 //! too few and with enough, 34 where both would be given.
-use std::num::wrapping_add_u64;
-use writer::{Writer, Written};
+use writer::{WriteError, Writer};
 
 // What a byte of a buffer is before a begin.
 pub const OTHER: u8 = 165;
@@ -10,94 +9,75 @@ pub const OTHER: u8 = 165;
 const MOST: usize = 524290;
 
 // The writer as the calls so far left it, how many there were, and how many were answered otherwise than they had to be.
-#[derive(Clone, Copy)]
+#[derive(Clone, Copy, Default)]
 pub struct Tally {
     pub writer: Writer,
     pub calls: u64,
     pub differ: u64,
 }
 
-// A writer before a begin.
-pub fn unbegun(calls: u64, differ: u64) -> Tally {
-    Tally {
-        writer: Writer {
-            stage: 0,
-            size: 0,
-            templates: 0,
-            at: 0,
-            constants: 0,
-        },
-        calls,
-        differ,
-    }
-}
-
 fn counted(t: Tally, writer: Writer, agrees: bool) -> Tally {
-    let calls = wrapping_add_u64(t.calls, 1);
-    if agrees {
-        return Tally {
-            writer,
-            calls,
-            differ: t.differ,
-        };
-    }
     Tally {
         writer,
-        calls,
-        differ: wrapping_add_u64(t.differ, 1),
+        calls: t.calls.wrapping_add(1),
+        differ: t.differ.wrapping_add(u64::from(!agrees)),
     }
 }
 
 // A call's answer beside the number that it had to give; 0 is acceptance.
-pub fn met(t: Tally, number: u64, x: Written) -> Tally {
+pub fn met(t: Tally, number: u64, x: Result<Writer, WriteError>) -> Tally {
     match x {
-        Written::Wrote(w) => counted(t, w, number == 0),
-        Written::Refused(n) => counted(t, t.writer, number == n),
+        Ok(w) => counted(t, w, number == 0),
+        Err(e) => counted(t, t.writer, number == u64::from(e)),
     }
 }
 
 // All but a begin, and all refused by 34.
 fn refuses_each(t: Tally, b: &mut [u8]) -> Tally {
-    let t = met(t, 34, writer::template(t.writer, b, 0, 0));
+    let t = met(t, 34, t.writer.template(b, 0, 0));
     let t = refuses_items(t, b);
-    met(t, 34, writer::finish(t.writer))
+    met(t, 34, t.writer.finish())
 }
 
 fn refuses_items(t: Tally, b: &mut [u8]) -> Tally {
     let t = refuses_values(t, b);
-    let t = met(t, 34, writer::function(t.writer, b, 1));
-    let t = met(t, 34, writer::code(t.writer, b, b"a"));
-    met(t, 34, writer::code(t.writer, b, b""))
+    let t = met(t, 34, t.writer.function(b, 1));
+    let t = met(t, 34, t.writer.code(b, b"a"));
+    met(t, 34, t.writer.code(b, b""))
 }
 
 fn refuses_values(t: Tally, b: &mut [u8]) -> Tally {
-    let t = met(t, 34, writer::number(t.writer, b, 1));
-    let t = met(t, 34, writer::text(t.writer, b, b"a"));
-    let t = met(t, 34, writer::boolean(t.writer, b, true));
-    let t = met(t, 34, writer::null(t.writer, b));
-    met(t, 34, writer::undefined(t.writer, b))
+    let t = met(t, 34, t.writer.number(b, 1));
+    let t = met(t, 34, t.writer.text(b, b"a"));
+    let t = met(t, 34, t.writer.boolean(b, true));
+    let t = met(t, 34, t.writer.null(b));
+    met(t, 34, t.writer.undefined(b))
 }
 
 // Out of order: before a begin, with no template, behind a template's code of no bytes, after the finish.
 fn order(t: Tally, b: &mut [u8]) -> Tally {
-    let t = refuses_each(unbegun(t.calls, t.differ), b);
-    let t = refuses_items(met(t, 0, writer::begin(b)), b);
+    let unbegun = Tally {
+        writer: Writer::default(),
+        ..t
+    };
+    let t = refuses_each(unbegun, b);
+    let t = refuses_items(met(t, 0, Writer::begin(b)), b);
     let t = behind_code(t, b);
-    let t = refuses_each(met(t, 0, writer::finish(t.writer)), b);
+    let t = refuses_each(met(t, 0, t.writer.finish()), b);
     // a begin starts anew, and an image of no template is finished
-    let t = met(t, 0, writer::begin(b));
-    met(t, 0, writer::finish(t.writer))
+    let t = met(t, 0, Writer::begin(b));
+    met(t, 0, t.writer.finish())
 }
 
 fn behind_code(t: Tally, b: &mut [u8]) -> Tally {
-    let t = met(t, 0, writer::template(t.writer, b, 0, 0));
-    let t = met(t, 0, writer::code(t.writer, b, b""));
+    let t = met(t, 0, t.writer.template(b, 0, 0));
+    let t = met(t, 0, t.writer.code(b, b""));
     refuses_items(t, b)
 }
 
 fn opened(t: Tally, b: &mut [u8]) -> Tally {
-    let t = met(t, 0, writer::begin(b));
-    met(t, 0, writer::template(t.writer, b, 0, 0))
+    let t = met(t, 0, Writer::begin(b));
+    met(t, 0, t.writer.template(b, 0, 0))
 }
 
 // Begin needs 2 bytes, a template 8, finish none.
@@ -106,14 +86,14 @@ fn first_bytes(t: Tally) -> Tally {
     let mut one: [u8; 1] = [OTHER; 1];
     let mut nine: [u8; 9] = [OTHER; 9];
     let mut ten: [u8; 10] = [OTHER; 10];
-    let t = met(t, 31, writer::begin(&mut none));
-    let t = met(t, 31, writer::begin(&mut one));
-    let t = met(t, 0, writer::begin(&mut nine));
-    let t = met(t, 31, writer::template(t.writer, &mut nine, 0, 0));
-    let t = met(t, 34, writer::template(t.writer, &mut nine, 65536, 0));
+    let t = met(t, 31, Writer::begin(&mut none));
+    let t = met(t, 31, Writer::begin(&mut one));
+    let t = met(t, 0, Writer::begin(&mut nine));
+    let t = met(t, 31, t.writer.template(&mut nine, 0, 0));
+    let t = met(t, 34, t.writer.template(&mut nine, 65536, 0));
     let t = opened(t, &mut ten);
-    let t = met(t, 31, writer::template(t.writer, &mut ten, 0, 0));
-    met(t, 0, writer::finish(t.writer))
+    let t = met(t, 31, t.writer.template(&mut ten, 0, 0));
+    met(t, 0, t.writer.finish())
 }
 
 // A template is open and no byte is left: a constant and code need their own, and code of no bytes needs none.
@@ -122,23 +102,23 @@ fn full(t: Tally, long: &[u8]) -> Tally {
     let t = opened(t, &mut b);
     let t = full_of_values(t, &mut b);
     let t = full_of_texts(t, &mut b, long);
-    let t = met(t, 31, writer::code(t.writer, &mut b, b"a"));
-    let t = met(t, 34, writer::code(t.writer, &mut b, long));
-    met(t, 0, writer::code(t.writer, &mut b, b""))
+    let t = met(t, 31, t.writer.code(&mut b, b"a"));
+    let t = met(t, 34, t.writer.code(&mut b, long));
+    met(t, 0, t.writer.code(&mut b, b""))
 }
 
 fn full_of_values(t: Tally, b: &mut [u8]) -> Tally {
-    let t = met(t, 31, writer::number(t.writer, b, 1));
-    let t = met(t, 31, writer::boolean(t.writer, b, false));
-    let t = met(t, 31, writer::null(t.writer, b));
-    met(t, 31, writer::undefined(t.writer, b))
+    let t = met(t, 31, t.writer.number(b, 1));
+    let t = met(t, 31, t.writer.boolean(b, false));
+    let t = met(t, 31, t.writer.null(b));
+    met(t, 31, t.writer.undefined(b))
 }
 
 fn full_of_texts(t: Tally, b: &mut [u8], long: &[u8]) -> Tally {
-    let t = met(t, 31, writer::text(t.writer, b, b""));
-    let t = met(t, 34, writer::text(t.writer, b, long));
-    let t = met(t, 31, writer::function(t.writer, b, 65535));
-    met(t, 34, writer::function(t.writer, b, 65536))
+    let t = met(t, 31, t.writer.text(b, b""));
+    let t = met(t, 34, t.writer.text(b, long));
+    let t = met(t, 31, t.writer.function(b, 65535));
+    met(t, 34, t.writer.function(b, 65536))
 }
 
 // A byte too few for each kind of constant and for code, then just enough.
@@ -147,18 +127,18 @@ fn kinds(t: Tally, short: &mut [u8], exact: &mut [u8], kind: u64) -> Tally {
     let t = met(t, 31, constant(t.writer, short, kind));
     let t = opened(t, exact);
     let t = met(t, 0, constant(t.writer, exact, kind));
-    met(t, 0, writer::finish(t.writer))
+    met(t, 0, t.writer.finish())
 }
 
-fn constant(w: Writer, b: &mut [u8], kind: u64) -> Written {
+fn constant(w: Writer, b: &mut [u8], kind: u64) -> Result<Writer, WriteError> {
     match kind {
-        0 => writer::number(w, b, 0xffff_ffff_ffff_ffff),
-        1 => writer::text(w, b, b"echo"),
-        2 => writer::boolean(w, b, true),
-        3 => writer::null(w, b),
-        4 => writer::undefined(w, b),
-        5 => writer::function(w, b, 1),
-        _ => writer::code(w, b, b"echo"),
+        0 => w.number(b, 0xffff_ffff_ffff_ffff),
+        1 => w.text(b, b"echo"),
+        2 => w.boolean(b, true),
+        3 => w.null(b),
+        4 => w.undefined(b),
+        5 => w.function(b, 1),
+        _ => w.code(b, b"echo"),
     }
 }
 
@@ -184,50 +164,46 @@ fn exact(t: Tally) -> Tally {
 
 // The counts and lengths that one call gives.
 fn lengths(t: Tally, b: &mut [u8], most: &[u8], long: &[u8]) -> Tally {
-    let t = numbers(met(t, 0, writer::begin(b)), b);
-    let t = met(t, 34, writer::text(t.writer, b, long));
-    let t = met(t, 0, writer::text(t.writer, b, most));
-    let t = met(t, 34, writer::code(t.writer, b, long));
-    let t = met(t, 0, writer::code(t.writer, b, most));
-    met(t, 0, writer::finish(t.writer))
+    let t = numbers(met(t, 0, Writer::begin(b)), b);
+    let t = met(t, 34, t.writer.text(b, long));
+    let t = met(t, 0, t.writer.text(b, most));
+    let t = met(t, 34, t.writer.code(b, long));
+    let t = met(t, 0, t.writer.code(b, most));
+    met(t, 0, t.writer.finish())
 }
 
 fn numbers(t: Tally, b: &mut [u8]) -> Tally {
-    let t = met(t, 34, writer::template(t.writer, b, 65536, 0));
-    let t = met(t, 34, writer::template(t.writer, b, 0, 65536));
-    let t = met(t, 0, writer::template(t.writer, b, 65535, 65535));
-    let t = met(t, 34, writer::function(t.writer, b, 65536));
-    met(t, 0, writer::function(t.writer, b, 65535))
+    let t = met(t, 34, t.writer.template(b, 65536, 0));
+    let t = met(t, 34, t.writer.template(b, 0, 65536));
+    let t = met(t, 0, t.writer.template(b, 65535, 65535));
+    let t = met(t, 34, t.writer.function(b, 65536));
+    met(t, 0, t.writer.function(b, 65535))
 }
 
 // As many constants, and templates, as their counts can tell.
 fn most_constants(t: Tally, b: &mut [u8]) -> Tally {
     let mut t = t;
-    let mut i: usize = 0;
-    while i < 65535 {
-        t = met(t, 0, writer::null(t.writer, b));
-        i += 1;
+    for _ in 0..65535 {
+        t = met(t, 0, t.writer.null(b));
     }
     t
 }
 
 fn most_templates(t: Tally, b: &mut [u8]) -> Tally {
     let mut t = t;
-    let mut i: usize = 0;
-    while i < 65535 {
-        t = met(t, 0, writer::template(t.writer, b, 0, 0));
-        i += 1;
+    for _ in 0..65535 {
+        t = met(t, 0, t.writer.template(b, 0, 0));
     }
     t
 }
 
 fn counts(t: Tally, b: &mut [u8]) -> Tally {
     let t = most_constants(opened(t, b), b);
-    let t = met(t, 34, writer::null(t.writer, b));
-    let t = met(t, 0, writer::code(t.writer, b, b"a"));
-    let t = most_templates(met(t, 0, writer::begin(b)), b);
-    let t = met(t, 34, writer::template(t.writer, b, 0, 0));
-    met(t, 0, writer::finish(t.writer))
+    let t = met(t, 34, t.writer.null(b));
+    let t = met(t, 0, t.writer.code(b, b"a"));
+    let t = most_templates(met(t, 0, Writer::begin(b)), b);
+    let t = met(t, 34, t.writer.template(b, 0, 0));
+    met(t, 0, t.writer.finish())
 }
 
 // The long buffers: a proof need not compute with their bytes.

@@ -1,14 +1,19 @@
-use Rattle.heapops.specs.Turns.{mem}
-use Rattle.finish.specs.Parts.{tables}
-use Rattle.host.specs.Lent.{lent_if}
+use Rattle.std.proofs.Common.{◌≡◌}
+use Rattle.std.proofs.lemmas.Result.{err_from_is_err_and}
+use Rattle.host.specs.declared.refusal.Refusal.TheVariants.{BufferTooShort}
 use Rattle.buffers.specs.Writes.{drain_short, drain_bytes}
 use Rattle.buffers.proofs.drain.Goals as goal
 
-pub returns-in-TooShort-clause-called : goal.returns-in-TooShort-clause-called
-returns-in-TooShort-clause-called c = (drain_short (lent_if {c = c.args.c} {g = tables c.args.code.now c.args.places.now c.args.rows.now c.args.starts.now} {m = mem c.args.stacks.now c.args.heap.now c.args.text.now c.args.output.now} c.lent.ensures c.if-lent.true) c.write_bytes.ensures c.in-TooShort.is).0
+pub returns-in_err-size-clause-called : goal.returns-in_err-size-clause-called
+returns-in_err-size-clause-called c =
+    let e = c.in_err-size.ensures in
+    let v = rw e.ok_part at e.value in
+    let short : c.in_err-size.field-0.0 ≡ BufferTooShort = cc in
+    let p = err_from_is_err_and c.from_residual-in_err-size.result c.from_residual-in_err-size.ensures.1 in
+    rw (p.1, p.2, short) (drain_short c.in_ok-lent.ensures (rw e.ok_part at c.write_bytes.ensures))
 
-pub returns-in-Bytes-clause-called : goal.returns-in-Bytes-clause-called
-returns-in-Bytes-clause-called c = (drain_bytes (lent_if {c = c.args.c} {g = tables c.args.code.now c.args.places.now c.args.rows.now c.args.starts.now} {m = mem c.args.stacks.now c.args.heap.now c.args.text.now c.args.output.now} c.lent.ensures c.if-lent.true) c.write_bytes.ensures _ c.in-Bytes.is).0
+pub returns-clause-called : goal.returns-clause-called
+returns-clause-called c = (drain_bytes c.in_ok-lent.ensures (rw c.in_ok-size.ensures.ok_part at c.write_bytes.ensures)).0
 
-pub returns-in-Bytes-clause-buffered : goal.returns-in-Bytes-clause-buffered
-returns-in-Bytes-clause-buffered c = (drain_bytes (lent_if {c = c.args.c} {g = tables c.args.code.now c.args.places.now c.args.rows.now c.args.starts.now} {m = mem c.args.stacks.now c.args.heap.now c.args.text.now c.args.output.now} c.lent.ensures c.if-lent.true) c.write_bytes.ensures _ c.in-Bytes.is).1
+pub returns-clause-buffered : goal.returns-clause-buffered
+returns-clause-buffered c = (drain_bytes c.in_ok-lent.ensures (rw c.in_ok-size.ensures.ok_part at c.write_bytes.ensures)).1

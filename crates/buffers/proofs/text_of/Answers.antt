@@ -1,17 +1,11 @@
-use Rattle.heapops.specs.Turns.{mem}
-use Rattle.finish.specs.Parts.{tables}
-use Rattle.host.specs.Lent.{lent_if}
-use Rattle.buffers.specs.Writes.{text_31, text_bytes}
-use mathlib.Core.Path.{refl, sym, ◌∙◌}
-use Rattle.machine.specs.Act.{plain}
-use Rattle.value.specs.Words.{value_of}
+use Rattle.host.specs.Givens.{given_of}
+use Rattle.buffers.specs.Writes.{text_by}
 use Rattle.buffers.proofs.text_of.Goals as goal
 
-pub returns-in-Bytes-clause-called : goal.returns-in-Bytes-clause-called
-returns-in-Bytes-clause-called c = (text_bytes (lent_if {c = c.args.c} {g = tables c.args.code.now c.args.places.now c.args.rows.now c.args.starts.now} {m = mem c.args.stacks.now c.args.heap.now c.args.text.now c.args.output.now} c.lent.ensures c.if-lent.true) (plain (value_of c.args.v)) refl (sym c.handle_fine.ensures ∙ c.if-handle_fine.true) c.write_text.ensures _ c.in-Bytes.is).0
+pub returns-clause-called : goal.returns-clause-called
+returns-clause-called c =
+    rw c.ok_or.ensures.value ((text_by c.in_ok-lent.ensures (given_of c.args.given) c.in_ok-ascii.ensures c.in_ok-handle.ensures c.write.result c.write.ensures).0)
 
-pub returns-in-Bytes-clause-buffered : goal.returns-in-Bytes-clause-buffered
-returns-in-Bytes-clause-buffered c = (text_bytes (lent_if {c = c.args.c} {g = tables c.args.code.now c.args.places.now c.args.rows.now c.args.starts.now} {m = mem c.args.stacks.now c.args.heap.now c.args.text.now c.args.output.now} c.lent.ensures c.if-lent.true) (plain (value_of c.args.v)) refl (sym c.handle_fine.ensures ∙ c.if-handle_fine.true) c.write_text.ensures _ c.in-Bytes.is).1
-
-pub returns-in-TooShort-clause-called : goal.returns-in-TooShort-clause-called
-returns-in-TooShort-clause-called c = (text_31 (lent_if {c = c.args.c} {g = tables c.args.code.now c.args.places.now c.args.rows.now c.args.starts.now} {m = mem c.args.stacks.now c.args.heap.now c.args.text.now c.args.output.now} c.lent.ensures c.if-lent.true) (plain (value_of c.args.v)) refl (sym c.handle_fine.ensures ∙ c.if-handle_fine.true) c.write_text.ensures c.in-TooShort.is).0
+pub returns-clause-buffered : goal.returns-clause-buffered
+returns-clause-buffered c =
+    rw c.ok_or.ensures.value ((text_by c.in_ok-lent.ensures (given_of c.args.given) c.in_ok-ascii.ensures c.in_ok-handle.ensures c.write.result c.write.ensures).1)

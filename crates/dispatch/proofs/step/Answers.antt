@@ -8,4 +8,4 @@ pub returns-in_default : goal.returns-in_default
 returns-in_default c = step_out to_coded (c.requires.runs c.if-d-eq0.false) c.fetch.ensures c.in_default.is c.pop_frame.ensures c.went.ensures
 
 pub returns : goal.returns
-returns c = step_go to_coded (c.requires.runs c.if-d-eq0.false) c.fetch.ensures c.in-Got.is c.execute.ensures
+returns c = step_go to_coded (c.requires.runs c.if-d-eq0.false) c.fetch.ensures c.in-Some.is c.execute.ensures

@@ -8,8 +8,5 @@ use Rattle.fetch.proofs.byte_at.Goals as goal
 pub returns-then-n-at : goal.returns-then-n-at
 returns-then-n-at c = let a = c.args in (sym (row_past a.n (λ i. get_or a.code.now i 0) (a.at + a.p) 0 (omega arith)), omega arith)
 
-pub returns-then-n-at-2 : goal.returns-then-n-at-2
-returns-then-n-at-2 c = let a = c.args in (sym (row_past a.n (λ i. get_or a.code.now i 0) (a.at + a.p) 0 (omega arith)), omega arith)
-
 pub returns : goal.returns
-returns c = let a = c.args in (c.wide.ensures.0 ∙ sym (row_at_lem a.n (λ i. get_or a.code.now i 0) (a.at + a.p) 0 (omega arith)), c.wide.ensures.1)
+returns c = let a = c.args in (c.from.ensures ∙ sym (row_at_lem a.n (λ i. get_or a.code.now i 0) (a.at + a.p) 0 (omega arith)), omega (arith, c.from.ensures, c.type_inv.code (a.at + a.p)))

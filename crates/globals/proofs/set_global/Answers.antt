@@ -1,15 +1,19 @@
-use Rattle.heapops.specs.Turns.{mem}
-use Rattle.finish.specs.Parts.{tables}
-use Rattle.host.specs.Lent.{lent_if, lent_sized}
-use Rattle.globals.specs.Globals.{set_put}
-use mathlib.Core.Path.{sym, ap, ◌∙◌}
-use Rattle.machine.specs.Act.{plain}
-use Rattle.value.specs.Words.{value_of}
-use mathlib.Core.Bool.{Bool, true, ◌&&◌}
+use Rattle.std.proofs.lemmas.Result.{err_from_is_err_and}
+use Rattle.host.specs.Givens.{given_of}
+use Rattle.host.specs.Lent.{lent_use, lent_sized, lent_within, lent_lengths}
+use Rattle.globals.specs.Globals.{set_full, set_done}
 use Rattle.globals.proofs.set_global.Goals as goal
 
-pub put_global-r-requires-clause-sized : goal.put_global-r-requires-clause-sized
-put_global-r-requires-clause-sized c = lent_sized (lent_if {c = c.args.c} {g = tables c.args.code.now c.args.places.now c.args.rows.now c.args.starts.now} {m = mem c.args.stacks.now c.args.heap.now c.args.text.now c.args.output.now} c.lent.ensures c.if-lent.true)
+pub put-requires-clause-sized : goal.put-requires-clause-sized
+put-requires-clause-sized c = lent_sized c.in_ok-lent.ensures
 
-pub returns-then-handle_fine : goal.returns-then-handle_fine
-returns-then-handle_fine c = set_put (lent_if c.lent.ensures c.if-lent.true) c.args.name.now (plain (value_of c.args.v)) (ap (λ (x : Bool). x && true) (sym c.is_ascii.ensures ∙ c.if-is_ascii.true)) (sym c.handle_fine.ensures ∙ c.if-handle_fine.true) c.put_global-r.ensures c.settle.ensures c.put_global-r.auto.text
+pub put-requires-clause-n_in_bounds : goal.put-requires-clause-n_in_bounds
+put-requires-clause-n_in_bounds c = let e = c.in_ok-lent.ensures in ((lent_use e).code, (lent_within e).text, (lent_lengths e).text)
+
+pub returns-in_err-sizes : goal.returns-in_err-sizes
+returns-in_err-sizes c =
+    let p = err_from_is_err_and c.from_residual-in_err-sizes.result c.from_residual-in_err-sizes.ensures.1 in
+    rw (p.1, p.2) (set_full c.in_ok-lent.ensures c.args.name.now (given_of c.args.given) c.in_ok-ascii.ensures c.in_ok-ascii-2.ensures c.in_ok-handle.ensures c.in_err-sizes.ensures)
+
+pub returns : goal.returns
+returns c = set_done c.in_ok-lent.ensures c.args.name.now (given_of c.args.given) c.in_ok-ascii.ensures c.in_ok-ascii-2.ensures c.in_ok-handle.ensures c.in_ok-sizes.ensures c.put.auto.text

@@ -1,14 +1,18 @@
+use Rattle.std.proofs.Common.{rules, arith, ◌∙◌}
 use Rattle.image.proofs.Lists.{same_refl}
-use Rattle.image.proofs.Views.{fill_one}
+use Rattle.image.proofs.Views.{fill_one, row_put}
 use Rattle.reader.specs.Laws.{template_missing}
 use Rattle.image.proofs.fill_template.Goals as goal
 
-pub returns-in_default-read_tail : goal.returns-in_default-read_tail
-returns-in_default-read_tail c = let h = c.in-Start.ensures in let g = c.in-Next.ensures in
-    let t = c.in_default-read_tail.ensures in let a = c.args in
-    template_missing a.s.now a.own a.count a.c.at _ _ _ _ h _ _ (g.reads a.s.now c.fill_constants.new.places same_refl same_refl) t
+pub returns-in_err-tail-clause-fills : goal.returns-in_err-tail-clause-fills
+returns-in_err-tail-clause-fills c = let a = c.args in let s = a.reader.now.src.now in
+    let g = rw c.in_ok-head.ensures.src at c.in_ok-fill_constants.ensures.fills in
+    let t = rw (c.in_ok-fill_constants.ensures.src ∙ c.in_ok-head.ensures.src) at c.in_err-tail.ensures.tailed in
+    let e = template_missing s a.own a.count a.reader.now.at _ _ _ _ c.in_ok-head.ensures.headed _ _ _ (g.reads s c.fill_constants.new.places same_refl same_refl) t.0 in
+    search rules
 
-pub returns-in-Code : goal.returns-in-Code
-returns-in-Code c = let h = c.in-Start.ensures in let g = c.in-Next.ensures in
-    let t = c.in-Code.ensures in
-    fill_one h g t c.put_row.ensures
+pub returns-clause-fills : goal.returns-clause-fills
+returns-clause-fills c = let a = c.args in
+    let g = rw c.in_ok-head.ensures.src at c.in_ok-fill_constants.ensures.fills in
+    let t = rw (c.in_ok-fill_constants.ensures.src ∙ c.in_ok-head.ensures.src) at c.in_ok-tail.ensures.tailed in
+    rw (c.copy_from_slice.ensures.after, c.at-first.ensures) (fill_one c.in_ok-head.ensures.headed g t (row_put a.rows.now _ a.r _ (omega arith)))

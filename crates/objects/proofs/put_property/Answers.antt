@@ -14,4 +14,4 @@ pub returns-in_default : goal.returns-in_default
 returns-in_default c = property_new c.args.z c.args.heap.now c.args.m c.args.text.now c.requires.sized c.requires.n_in_bounds.1 c.requires.n_in_bounds.2 c.args.owner (source_bytes (stores_of c.args.code.now c.args.n c.args.text.now c.args.m) c.args.buffer.now c.args.key) c.find_key.result c.find_key.ensures c.args.v c.in_default.is _ _ _ c.if-count-ge-PROPERTY_LIMIT.false (omega (arith, c.if-m-size_of.false, c.requires.n_in_bounds.1, c.size_of.ensures.size c.args.code.now c.args.text.now c.args.buffer.now c.requires.n_in_bounds.0 (omega (arith, c.requires.n_in_bounds.1, c.requires.n_in_bounds.2)) refl)) c.lay_row-e.ensures
 
 pub returns : goal.returns
-returns c = property_there c.args.z c.args.heap.now c.args.m c.args.text.now c.requires.sized c.requires.n_in_bounds.1 c.requires.n_in_bounds.2 c.args.owner (source_bytes (stores_of c.args.code.now c.args.n c.args.text.now c.args.m) c.args.buffer.now c.args.key) c.find_key.result c.find_key.ensures c.args.v _ _ c.in-At.is c.write.ensures
+returns c = property_there c.args.z c.args.heap.now c.args.m c.args.text.now c.requires.sized c.requires.n_in_bounds.1 c.requires.n_in_bounds.2 c.args.owner (source_bytes (stores_of c.args.code.now c.args.n c.args.text.now c.args.m) c.args.buffer.now c.args.key) c.find_key.result c.find_key.ensures c.args.v _ _ c.in-Some.is c.write.ensures

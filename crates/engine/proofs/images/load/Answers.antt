@@ -1,9 +1,11 @@
-use Rattle.host.specs.Lent.{lent_if}
+use Rattle.std.proofs.lemmas.Result.{err_from_is_err_and}
 use Rattle.engine.specs.Loads.{load_refused, load_done}
 use Rattle.engine.proofs.images.load.Goals as goal
 
-pub returns-in-Refused : goal.returns-in-Refused
-returns-in-Refused c = load_refused (lent_if c.lent.ensures c.if-lent.true) c.load.ensures c.in-Refused.is
+pub returns-in_err-number : goal.returns-in_err-number
+returns-in_err-number c =
+    let p = err_from_is_err_and c.from_residual-in_err-number.result c.from_residual-in_err-number.ensures.1 in
+    rw (p.1, p.2) (load_refused c.in_ok-lent.ensures c.in_err-number.ensures)
 
-pub returns-in-Done : goal.returns-in-Done
-returns-in-Done c = load_done (lent_if c.lent.ensures c.if-lent.true) c.load.ensures c.in-Done.is c.load.auto.code c.load.auto.places c.load.auto.rows c.load.auto.starts
+pub returns : goal.returns
+returns c = load_done c.in_ok-lent.ensures c.in_ok-number.ensures c.load.auto.code c.load.auto.places c.load.auto.rows c.load.auto.starts

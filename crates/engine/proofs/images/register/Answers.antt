@@ -1,21 +1,16 @@
-use Rattle.heapops.specs.Turns.{mem}
+use Rattle.std.proofs.lemmas.Result.{err_from_is_err_and}
 use Rattle.finish.specs.Parts.{tables}
-use Rattle.host.specs.Lent.{lent_if, lent_sized}
-use Rattle.engine.specs.Registers.{register_10, register_zero, register_32, register_added}
-use native.Mathlib.Omega.{arith}
+use Rattle.host.specs.Lent.{lent_sized}
+use Rattle.engine.specs.Registers.{register_full, register_done}
 use Rattle.engine.proofs.images.register.Goals as goal
 
-pub returns-then-c-image : goal.returns-then-c-image
-returns-then-c-image c = register_10 c.args.image c.args.template (lent_if c.lent.ensures c.if-lent.true) c.if-c-image.true
+pub add_function-requires : goal.add_function-requires
+add_function-requires c = lent_sized c.in_ok-lent.ensures
 
-pub returns-then-template-eq0 : goal.returns-then-template-eq0
-returns-then-template-eq0 c = register_zero c.args.image c.args.template (lent_if c.lent.ensures c.if-lent.true) (omega arith) c.if-template-eq0.true
+pub returns-in_err-sizes : goal.returns-in_err-sizes
+returns-in_err-sizes c =
+    let p = err_from_is_err_and c.from_residual-in_err-sizes.result c.from_residual-in_err-sizes.ensures.1 in
+    rw (p.1, p.2) (register_full c.args.image c.args.template c.in_ok-lent.ensures (c.in_ok-loaded.ensures _) (c.in_ok-template.ensures _ _) c.in_err-sizes.ensures)
 
-pub returns-then-template_count-template : goal.returns-then-template_count-template
-returns-then-template_count-template c = register_32 c.args.image c.args.template (lent_if c.lent.ensures c.if-lent.true) (omega arith) c.if-template-eq0.false (c.template_count.ensures c.args.code.now c.args.places.now) c.if-template_count-template.true
-
-pub add_function-r-requires : goal.add_function-r-requires
-add_function-r-requires c = lent_sized (lent_if {c = c.args.c} {g = tables c.args.code.now c.args.places.now c.args.rows.now c.args.starts.now} {m = mem c.args.stacks.now c.args.heap.now c.args.text.now c.args.output.now} c.lent.ensures c.if-lent.true)
-
-pub returns-then-lent : goal.returns-then-lent
-returns-then-lent c = register_added c.args.image c.args.template (lent_if c.lent.ensures c.if-lent.true) (omega arith) c.if-template-eq0.false (c.template_count.ensures c.args.code.now c.args.places.now) (omega arith) c.add_function-r.ensures c.settle.ensures
+pub returns : goal.returns
+returns c = register_done c.args.image c.args.template c.in_ok-lent.ensures (c.in_ok-loaded.ensures _) (c.in_ok-template.ensures _ _) c.in_ok-sizes.ensures

@@ -1,6 +1,19 @@
-use Rattle.host.specs.Lent.{lent_if}
-use Rattle.engine.specs.Runs.{no_image}
+use Rattle.std.proofs.lemmas.Result.{err_from_is_err_and}
+use Rattle.run.specs.Runs.{whole_ready}
+use Rattle.host.specs.Lent.{whole_lent}
+use Rattle.engine.specs.Runs.{start_refused, start_whole, start_ran}
 use Rattle.engine.proofs.runs.run.Goals as goal
 
-pub returns-then-c-image : goal.returns-then-c-image
-returns-then-c-image c = no_image c.args.image (lent_if c.lent.ensures c.if-lent.true) c.if-c-image.true
+pub push_frame-requires : goal.push_frame-requires
+push_frame-requires c = whole_ready (whole_lent c.in_ok-lent.ensures)
+
+pub returns-in_err-depths : goal.returns-in_err-depths
+returns-in_err-depths c =
+    let p = err_from_is_err_and c.from_residual-in_err-depths.result c.from_residual-in_err-depths.ensures.1 in
+    rw (p.1, p.2) (start_refused c.args.image c.in_ok-lent.ensures (c.in_ok-loaded.ensures _) c.in_err-depths.field-0.0 c.in_err-depths.ensures)
+
+pub run_loop-requires : goal.run_loop-requires
+run_loop-requires c = start_whole c.args.image c.in_ok-lent.ensures (c.in_ok-loaded.ensures _) c.in_ok-depths.ensures
+
+pub returns : goal.returns
+returns c = start_ran c.args.image c.in_ok-lent.ensures (c.in_ok-loaded.ensures _) c.in_ok-depths.ensures c.run_loop.result c.run_loop.ensures.ran c.run_loop.ensures.leaves

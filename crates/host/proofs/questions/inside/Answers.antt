@@ -1,12 +1,7 @@
-use native.Mathlib.Omega.{arith}
-use Rattle.host.specs.Inside.{inside_not, inside_by}
+use Rattle.host.specs.Inside.{inside_is}
 use Rattle.host.proofs.questions.inside.Goals as goal
 
-pub returns-then-n-at : goal.returns-then-n-at
-returns-then-n-at c = inside_not c.args.store.now c.args.n c.args.at c.args.size (omega arith)
-
-pub returns-then-n-at-2 : goal.returns-then-n-at-2
-returns-then-n-at-2 c = inside_not c.args.store.now c.args.n c.args.at c.args.size (omega arith)
-
-pub returns : goal.returns
-returns c = inside_by c.args.store.now c.args.n c.args.at c.args.size c.is_ascii.result c.requires (omega arith) c.locate-p.ensures c.is_ascii.ensures
+pub returns-then-is_ascii : goal.returns-then-is_ascii
+returns-then-is_ascii c =
+    let f = rw c.in_ok-text.ensures.ok_part at c.named.ensures in
+    inside_is c.args.bytes.now c.args.at c.args.size f.0 f.1 c.if-is_ascii.ensures.cases

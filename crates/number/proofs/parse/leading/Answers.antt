@@ -1,12 +1,13 @@
-use Rattle.std.proofs.Common.{◌∙◌}
-use Rattle.number.specs.Parse.{leading_minus, leading_other, leading_end}
+use Rattle.std.proofs.Common.{◌∙◌, arith}
+use Rattle.std.proofs.lemmas.List.{take_rest}
+use Rattle.number.specs.Parse.{leading_end, leading_minus, leading_other}
 use Rattle.number.proofs.parse.leading.Goals as goal
 
-pub returns-then-s-i-eq45 : goal.returns-then-s-i-eq45
-returns-then-s-i-eq45 c = c.digits.ensures ∙ leading_minus c.args.s.now 0 c.after_blanks-i.result c.after_blanks-i.ensures.1 c.if-i-s.true c.if-s-i-eq45.true
+pub returns-in-empty : goal.returns-in-empty
+returns-in-empty c = leading_end c.args.s.now c.after_blanks.result.now c.after_blanks.ensures c.in-empty.len_below
 
-pub returns-then-i-s : goal.returns-then-i-s
-returns-then-i-s c = c.digits-then-i-s.ensures ∙ leading_other c.args.s.now 0 c.after_blanks-i.result c.after_blanks-i.ensures.1 c.if-i-s.true c.if-s-i-eq45.false
+pub returns-in-45 : goal.returns-in-45
+returns-in-45 c = rw take_rest at c.digits.ensures ∙ leading_minus c.args.s.now c.after_blanks.result.now c.after_blanks.ensures c.in-45.len_at_least (omega arith)
 
-pub returns : goal.returns
-returns c = leading_end c.args.s.now 0 c.after_blanks-i.result c.after_blanks-i.ensures.1 c.if-i-s.false
+pub returns-in_default : goal.returns-in_default
+returns-in_default c = c.digits-in_default.ensures ∙ leading_other c.args.s.now c.after_blanks.result.now c.after_blanks.ensures c.in_default.len_at_least (omega arith)

@@ -1,8 +1,18 @@
-use Rattle.number.specs.Parse.{trailing_end, trailing_more}
+use Rattle.std.proofs.Common.{sym, ap, ◌∙◌, Bool, rules, tests}
+use Rattle.std.specs.Prelude.{if◌then◌else◌}
+use Rattle.std.proofs.lemmas.Iterator.{YieldsList-from_slice}
+use Rattle.std.proofs.lemmas.Iterator.Search.{all_from_yields_List}
+use Rattle.machine.specs.Number as N
+use Rattle.machine.specs.Reading as R
+use Rattle.number.specs.Parse.{trailing_lem}
 use Rattle.number.proofs.parse.trailing.Goals as goal
 
-pub returns-then-k-s : goal.returns-then-k-s
-returns-then-k-s c = trailing_more c.args.s.now c.args.i c.after_blanks-k.result c.after_blanks-k.ensures.1 c.args.minus c.args.n c.if-k-s.true
+pub returns-then-all : goal.returns-then-all
+returns-then-all c =
+    let all = all_from_yields_List N.is_blank _ _ _ c.all.ensures.ran (YieldsList-from_slice c.args.s.now (cc)) (λ x b q k. search (rules, tests)) in
+    sym (trailing_lem c.args.minus c.args.n c.args.s.now ∙ ap (λ (t : Bool). if t then R.trailing c.args.minus c.args.n else R.invalid) (sym all ∙ c.if-all.true))
 
-pub returns : goal.returns
-returns c = trailing_end c.args.s.now c.args.i c.after_blanks-k.result c.after_blanks-k.ensures.1 c.args.minus c.args.n c.if-k-s.false
+pub returns-else-all : goal.returns-else-all
+returns-else-all c =
+    let all = all_from_yields_List N.is_blank _ _ _ c.all.ensures.ran (YieldsList-from_slice c.args.s.now (cc)) (λ x b q k. search (rules, tests)) in
+    sym (trailing_lem c.args.minus c.args.n c.args.s.now ∙ ap (λ (t : Bool). if t then R.trailing c.args.minus c.args.n else R.invalid) (sym all ∙ c.if-all.false))

@@ -1,26 +1,15 @@
-use mathlib.Core.Path.{refl}
+use mathlib.Core.Path.{◌≡◌, refl}
+use Rattle.std.proofs.Common.{rules}
+use Rattle.machine.specs.Value as M
 use Rattle.machine.specs.Instruction as I
-use Rattle.readops.specs.Constants.{constant_none, constant_some, constant_function}
-use Rattle.machine.specs.Instruction.{LoadConst, CreateClosure, Add, get_string_constant}
+use Rattle.image.specs.Load.{found_of}
+use Rattle.readops.specs.Constants.{constant_makes, constant_function}
 use Rattle.readops.proofs.constants.create_closure.Goals as goal
 
 pub returns-in_default-constant_at : goal.returns-in_default-constant_at
-returns-in_default-constant_at c = constant_none I.closure c.fetch_word.ensures c.requires.runs c.in-Got.is c.constant_at.ensures c.in_default-constant_at.is c.push_value.ensures
+returns-in_default-constant_at c =
+    let e : I.closure (found_of c.constant_at.result) ≡ I.pushed M.undefined = search rules in
+    constant_makes I.closure c.fetch_word.ensures c.requires.runs c.constant_at.result c.in-Some.is c.constant_at.ensures e c.push_value.ensures
 
-pub returns-in-Number : goal.returns-in-Number
-returns-in-Number c = constant_some I.closure c.fetch_word.ensures c.requires.runs c.in-Got.is c.constant_at.ensures c.in-Is.is c.in-Number.is c.push_value-in-Number.ensures
-
-pub returns-in-Str : goal.returns-in-Str
-returns-in-Str c = constant_some I.closure c.fetch_word.ensures c.requires.runs c.in-Got.is c.constant_at.ensures c.in-Is.is c.in-Str.is c.push_value-in-Str.ensures
-
-pub returns-in-Bool : goal.returns-in-Bool
-returns-in-Bool c = constant_some I.closure c.fetch_word.ensures c.requires.runs c.in-Got.is c.constant_at.ensures c.in-Is.is c.in-Bool.is c.push_value-in-Bool.ensures
-
-pub returns-in-Null : goal.returns-in-Null
-returns-in-Null c = constant_some I.closure c.fetch_word.ensures c.requires.runs c.in-Got.is c.constant_at.ensures c.in-Is.is c.in-Null.is c.push_value-in-Null.ensures
-
-pub returns-in-Undefined : goal.returns-in-Undefined
-returns-in-Undefined c = constant_some I.closure c.fetch_word.ensures c.requires.runs c.in-Got.is c.constant_at.ensures c.in-Is.is c.in-Undefined.is c.push_value-in-Undefined.ensures
-
-pub returns-in-Function : goal.returns-in-Function
-returns-in-Function c = constant_function I.closure c.fetch_word.ensures c.requires.runs c.in-Got.is c.constant_at.ensures c.in-Is.is c.in-Function.is refl c.requires.ready c.left_to_do.ensures
+pub returns : goal.returns
+returns c = constant_function I.closure c.fetch_word.ensures c.requires.runs c.in-Some.is c.constant_at.ensures c.in-Some-Function.is c.in-Some-Function.field-0-is refl c.requires.ready c.left_to_do.ensures

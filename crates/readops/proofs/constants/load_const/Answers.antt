@@ -1,26 +1,25 @@
 use mathlib.Core.Path.{refl}
 use Rattle.machine.specs.Instruction as I
 use Rattle.readops.specs.Constants.{constant_none, constant_some, constant_function}
-use Rattle.machine.specs.Instruction.{LoadConst, CreateClosure, Add, get_string_constant}
 use Rattle.readops.proofs.constants.load_const.Goals as goal
 
-pub returns-in_default-constant_at : goal.returns-in_default-constant_at
-returns-in_default-constant_at c = constant_none I.load_constant c.fetch_word.ensures c.requires.runs c.in-Got.is c.constant_at.ensures c.in_default-constant_at.is c.push_value.ensures
+pub returns-in-Some-Number : goal.returns-in-Some-Number
+returns-in-Some-Number c = constant_some I.load_constant c.fetch_word.ensures c.requires.runs c.in-Some.is c.constant_at.ensures c.in-Some-Number.is c.in-Some-Number.field-0-is c.push_value.ensures
 
-pub returns-in-Number : goal.returns-in-Number
-returns-in-Number c = constant_some I.load_constant c.fetch_word.ensures c.requires.runs c.in-Got.is c.constant_at.ensures c.in-Is.is c.in-Number.is c.push_value-in-Number.ensures
+pub returns-in-Some-Str : goal.returns-in-Some-Str
+returns-in-Some-Str c = constant_some I.load_constant c.fetch_word.ensures c.requires.runs c.in-Some.is c.constant_at.ensures c.in-Some-Str.is c.in-Some-Str.field-0-is c.push_value-in-Some-Str.ensures
 
-pub returns-in-Str : goal.returns-in-Str
-returns-in-Str c = constant_some I.load_constant c.fetch_word.ensures c.requires.runs c.in-Got.is c.constant_at.ensures c.in-Is.is c.in-Str.is c.push_value-in-Str.ensures
+pub returns-in-Some-Bool : goal.returns-in-Some-Bool
+returns-in-Some-Bool c = constant_some I.load_constant c.fetch_word.ensures c.requires.runs c.in-Some.is c.constant_at.ensures c.in-Some-Bool.is c.in-Some-Bool.field-0-is c.push_value-in-Some-Bool.ensures
 
-pub returns-in-Bool : goal.returns-in-Bool
-returns-in-Bool c = constant_some I.load_constant c.fetch_word.ensures c.requires.runs c.in-Got.is c.constant_at.ensures c.in-Is.is c.in-Bool.is c.push_value-in-Bool.ensures
+pub returns-in-Some-Null : goal.returns-in-Some-Null
+returns-in-Some-Null c = constant_some I.load_constant c.fetch_word.ensures c.requires.runs c.in-Some.is c.constant_at.ensures c.in-Some-Null.is c.in-Some-Null.field-0-is c.push_value-in-Some-Null.ensures
 
-pub returns-in-Null : goal.returns-in-Null
-returns-in-Null c = constant_some I.load_constant c.fetch_word.ensures c.requires.runs c.in-Got.is c.constant_at.ensures c.in-Is.is c.in-Null.is c.push_value-in-Null.ensures
+pub returns-in-Some-Undefined : goal.returns-in-Some-Undefined
+returns-in-Some-Undefined c = constant_some I.load_constant c.fetch_word.ensures c.requires.runs c.in-Some.is c.constant_at.ensures c.in-Some-Undefined.is c.in-Some-Undefined.field-0-is c.push_value-in-Some-Undefined.ensures
 
-pub returns-in-Undefined : goal.returns-in-Undefined
-returns-in-Undefined c = constant_some I.load_constant c.fetch_word.ensures c.requires.runs c.in-Got.is c.constant_at.ensures c.in-Is.is c.in-Undefined.is c.push_value-in-Undefined.ensures
+pub returns-in-None : goal.returns-in-None
+returns-in-None c = constant_none I.load_constant c.fetch_word.ensures c.requires.runs c.in-Some.is c.constant_at.ensures c.in-None.is c.push_value-in-None.ensures
 
-pub returns-in-Function : goal.returns-in-Function
-returns-in-Function c = constant_function I.load_constant c.fetch_word.ensures c.requires.runs c.in-Got.is c.constant_at.ensures c.in-Is.is c.in-Function.is refl c.requires.ready c.left_to_do.ensures
+pub returns-in-Some-Function : goal.returns-in-Some-Function
+returns-in-Some-Function c = constant_function I.load_constant c.fetch_word.ensures c.requires.runs c.in-Some.is c.constant_at.ensures c.in-Some-Function.is c.in-Some-Function.field-0-is refl c.requires.ready c.left_to_do.ensures

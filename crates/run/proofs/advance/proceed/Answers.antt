@@ -1,3 +1,4 @@
+use Rattle.std.proofs.Common.{inl, inr}
 use Rattle.run.specs.Runs.{whole_ready, whole_code, whole_sized, whole_text, whole_output}
 use Rattle.run.specs.Advances.{sped_whole, advances_went, advances_ended, advances_refused}
 use Rattle.run.proofs.advance.proceed.Goals as goal
@@ -18,10 +19,10 @@ pub turn-t-requires-clause-code_in_bounds : goal.turn-t-requires-clause-code_in_
 turn-t-requires-clause-code_in_bounds c = whole_code (sped_whole c.speed-q.ensures c.requires.whole)
 
 pub returns-in-Went : goal.returns-in-Went
-returns-in-Went c = rw c.came.ensures (advances_went c.speed-q.ensures c.current-x.ensures.known c.turn-t.ensures c.turn-t.auto.stacks c.turn-t.auto.heap c.turn-t.auto.text c.turn-t.auto.output c.in-Went.is)
-
-pub returns-in-Ended : goal.returns-in-Ended
-returns-in-Ended c = rw c.came-in-Ended.ensures (advances_ended c.speed-q.ensures c.current-x.ensures.known c.turn-t.ensures c.turn-t.auto.stacks c.turn-t.auto.heap c.turn-t.auto.text c.turn-t.auto.output c.in-Ended.is)
+returns-in-Went c = rw c.came.ensures (elim c.in-Went.is [
+  | inl e ↦ advances_went c.speed-q.ensures c.current-x.ensures.known c.turn-t.ensures c.turn-t.auto.stacks c.turn-t.auto.heap c.turn-t.auto.text c.turn-t.auto.output e
+  | inr (a, e) ↦ advances_ended c.speed-q.ensures c.current-x.ensures.known c.turn-t.ensures c.turn-t.auto.stacks c.turn-t.auto.heap c.turn-t.auto.text c.turn-t.auto.output e
+])
 
 pub returns-in-Refused : goal.returns-in-Refused
 returns-in-Refused c = rw c.came-in-Refused.ensures (advances_refused c.speed-q.ensures c.current-x.ensures.known c.turn-t.ensures c.turn-t.auto.stacks c.turn-t.auto.heap c.turn-t.auto.text c.turn-t.auto.output c.in-Refused.is)

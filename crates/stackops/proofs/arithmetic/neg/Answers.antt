@@ -9,4 +9,4 @@ pub returns-in_default : goal.returns-in_default
 returns-in_default c = unary_fails (λ m a. M.number (N.neg (to_number m a))) c.pop.ensures c.in_default.is c.underflow.ensures
 
 pub returns : goal.returns
-returns c = unary (λ m a. M.number (N.neg (to_number m a))) c.pop.ensures c.in-Took.is (ap M.number (c.neg.ensures ∙ ap N.neg c.to_number-a.ensures)) c.push_value.ensures
+returns c = unary (λ m a. M.number (N.neg (to_number m a))) c.pop.ensures c.in-Some.is (ap M.number (c.neg.ensures ∙ ap N.neg c.to_number-a.ensures)) c.push_value.ensures

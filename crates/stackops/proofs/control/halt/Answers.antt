@@ -5,4 +5,4 @@ pub returns-in_default : goal.returns-in_default
 returns-in_default c = halt_none c.pop.ensures c.in_default.is c.ended.ensures
 
 pub returns : goal.returns
-returns c = halt_some c.pop.ensures c.in-Took.is c.ended-2.ensures
+returns c = halt_some c.pop.ensures c.in-Some.is c.ended-2.ensures

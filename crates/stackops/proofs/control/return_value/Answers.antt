@@ -10,4 +10,4 @@ pub returns-in_default : goal.returns-in_default
 returns-in_default c = pop_fails (λ v. make A.pop_frame (I.pushed v)) c.pop.ensures c.in_default.is c.underflow.ensures
 
 pub returns : goal.returns
-returns c = after_pop (λ v. make A.pop_frame (I.pushed v)) c.pop.ensures c.in-Took.is (after_gives out_pop_frame c.pop_frame-f.ensures c.push_value.ensures)
+returns c = after_pop (λ v. make A.pop_frame (I.pushed v)) c.pop.ensures c.in-Some.is (after_gives out_pop_frame c.pop_frame-f.ensures c.push_value.ensures)

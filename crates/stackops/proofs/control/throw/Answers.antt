@@ -2,7 +2,7 @@ use mathlib.Core.Path.{refl}
 use Rattle.machine.specs.Program.{look}
 use Rattle.machine.specs.Instruction as I
 use Rattle.outcome.specs.Meets.{pop_fails, jumps}
-use Rattle.stackops.specs.Control.{uncaught, caught, after_made, made_fails, made_refused}
+use Rattle.stackops.specs.Control.{uncaught, caught, after_made, made_stops}
 use Rattle.machine.specs.Instruction.{Jump, JumpIfFalse, JumpIfTrue, Return, Throw, EnterTry, LeaveTry, Halt}
 use Rattle.stackops.proofs.control.throw.Goals as goal
 
@@ -10,13 +10,10 @@ pub returns-in_default : goal.returns-in_default
 returns-in_default c = pop_fails (λ v. look λ s. I.throw v s.handlers) c.pop.ensures c.in_default.is c.underflow.ensures
 
 pub returns-then-k-eq0 : goal.returns-then-k-eq0
-returns-then-k-eq0 c = uncaught c.pop.ensures c.in-Took.is c.if-k-eq0.true c.failed.ensures
+returns-then-k-eq0 c = uncaught c.pop.ensures c.in-Some.is c.if-k-eq0.true c.failed.ensures
 
-pub returns-in-Went : goal.returns-in-Went
-returns-in-Went c = caught c.pop.ensures c.in-Took.is c.read_handler-h.result c.if-k-eq0.false c.read_handler-h.ensures c.unwind-u.ensures (after_made c.push.ensures c.in-Went.is c.went.ensures (jumps c.with_ip.ensures c.went.ensures))
+pub returns-in-Ok : goal.returns-in-Ok
+returns-in-Ok c = caught c.pop.ensures c.in-Some.is c.read_handler-h.result c.if-k-eq0.false c.read_handler-h.ensures c.unwind-u.ensures (after_made c.push.ensures c.in-Ok.is c.went.ensures (jumps c.with_ip.ensures c.went.ensures))
 
-pub returns-in-Failed : goal.returns-in-Failed
-returns-in-Failed c = caught c.pop.ensures c.in-Took.is c.read_handler-h.result c.if-k-eq0.false c.read_handler-h.ensures c.unwind-u.ensures (made_fails c.push.ensures c.in-Failed.is c.failed-in-Failed.ensures)
-
-pub returns-in-Refused : goal.returns-in-Refused
-returns-in-Refused c = caught c.pop.ensures c.in-Took.is c.read_handler-h.result c.if-k-eq0.false c.read_handler-h.ensures c.unwind-u.ensures (made_refused c.push.ensures c.in-Refused.is refl)
+pub returns-in-Err : goal.returns-in-Err
+returns-in-Err c = caught c.pop.ensures c.in-Some.is c.read_handler-h.result c.if-k-eq0.false c.read_handler-h.ensures c.unwind-u.ensures (made_stops c.push.ensures c.in-Err.is c.stopped.ensures)

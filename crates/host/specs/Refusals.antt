@@ -1,0 +1,20 @@
+-- Document 01's number of each refusal, and what a question promises. Assumes nothing.
+use Rattle.std.specs.Prelude.{◌≡◌, Bool, true, false, ℕ, Result, MatchResult}
+use Rattle.value.specs.Errors.{stop_number}
+use Rattle.image.specs.Errors.{asked}
+use Rattle.host.specs.declared.refusal.Refusal.{Refusal}
+use Rattle.host.specs.declared.refusal.Refusal.TheVariants.{StoreSizes, NotAscii, Handle, BufferTooShort, NoImage, NoTemplate, Load, Stopped}
+
+abbrev pub number_of : Refusal → ℕ
+number_of StoreSizes = 33
+number_of NotAscii = 29
+number_of Handle = 30
+number_of BufferTooShort = 31
+number_of NoImage = 10
+number_of NoTemplate = 32
+number_of (Load e) = asked e
+number_of (Stopped s) = stop_number s
+
+-- A question that asks for a test: it goes on, or this is the refusal.
+abbrev pub Asks : Result (Unit {0}) Refusal → Bool → Refusal → Type 0
+Asks r test q = MatchResult r (λ _. test ≡ true) (λ e. (test ≡ false) × (e ≡ q))

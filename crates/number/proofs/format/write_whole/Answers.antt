@@ -1,5 +1,0 @@
-use Rattle.number.specs.Layout.{wrote_minus}
-use Rattle.number.proofs.format.write_whole.Goals as goal
-
-pub returns-then-minus : goal.returns-then-minus
-returns-then-minus c = wrote_minus c.args.minus c.args.d c.args.out.now c.args.at c.requires c.if-minus.true _ _ c.write_digits.ensures

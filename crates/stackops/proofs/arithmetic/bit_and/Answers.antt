@@ -1,9 +1,0 @@
-use Rattle.machine.specs.Number as N
-use Rattle.stackops.specs.Numbers.{arithmetic, arithmetic_fails}
-use Rattle.stackops.proofs.arithmetic.bit_and.Goals as goal
-
-pub returns-in_default : goal.returns-in_default
-returns-in_default c = arithmetic_fails N.and c.pop_numbers.ensures c.in_default.is c.underflow.ensures
-
-pub returns : goal.returns
-returns c = arithmetic N.and c.pop_numbers.ensures c.in-Both.is c.and.ensures c.push_value.ensures

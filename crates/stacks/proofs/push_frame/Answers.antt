@@ -1,9 +1,0 @@
-use mathlib.Core.List.{[]}
-use Rattle.stacks.specs.Enters.{frames_full, frame_bare}
-use Rattle.stacks.proofs.push_frame.Goals as goal
-
-pub returns-then-d-ge-FRAME_LIMIT : goal.returns-then-d-ge-FRAME_LIMIT
-returns-then-d-ge-FRAME_LIMIT c = frames_full c.args.d c.args.stacks.now c.requires c.args.image c.args.template [] c.if-d-ge-FRAME_LIMIT.true
-
-pub returns : goal.returns
-returns c = frame_bare c.args.d c.args.stacks.now c.add_frame.new.stacks c.add_frame.result c.args.image c.args.template c.add_frame.ensures

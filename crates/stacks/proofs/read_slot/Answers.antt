@@ -1,6 +1,0 @@
-use mathlib.Core.Path.{◌∙◌}
-use Rattle.stacks.specs.Places.{spot_read}
-use Rattle.stacks.proofs.read_slot.Goals as goal
-
-pub returns : goal.returns
-returns c = c.read.ensures ∙ spot_read c.requires c.in-At.ensures.place
