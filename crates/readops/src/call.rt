@@ -78,11 +78,9 @@ pub fn call(
     let Some((argc, e)) = fetch(x, d, code, n) else {
         return cut_short(x, d);
     };
-    let k = e.operands;
-    if k <= argc {
+    let Some(at) = e.operands.checked_sub(argc + 1) else {
         return underflow(e);
-    }
-    let at = k - argc - 1;
+    };
     let f = e.with_operands(at);
     match callee_of(value::read(stacks, 3 * at)) {
         Callee::Other => failed(JsVmError::NotCallable, f),

@@ -12,9 +12,7 @@ use Rattle.machine.specs.Instruction as I
 use Rattle.machine.specs.Out.{Out, out, out_look, out_end, out_pop_handler, out_unwind}
 use Rattle.value.specs.Lists.{stack_pop, stack_none}
 use Rattle.value.specs.Words.{value_of}
-use Rattle.value.specs.declared.JsVmError.{JsVmError}
 use Rattle.value.specs.declared.JsVmError.TheVariants.{UncaughtException}
-use Rattle.value.specs.declared.Space.{Space}
 use Rattle.value.specs.declared.Value.{Value}
 use Rattle.value.specs.declared.Value.TheVariants.{Undefined}
 use Rattle.stacks.specs.declared.Depths.{Depths}

@@ -65,11 +65,10 @@ pub fn throw(d: Depths, stacks: &mut [u64]) -> Stepped
     let Some((v, e)) = d.pop(stacks) else {
         return underflow(d);
     };
-    let k = e.handlers;
-    if k == 0 {
+    let Some(k) = e.handlers.checked_sub(1) else {
         return failed(JsVmError::UncaughtException(v), e);
-    }
-    let h = stacks::read_handler(stacks, stacks::HANDLERS_AT + 3 * (k - 1));
+    };
+    let h = stacks::read_handler(stacks, stacks::HANDLERS_AT + 3 * k);
     let u = e.unwind(h, stacks);
     match u.push(stacks, v) {
         Ok(f) => went(f.with_ip(h.catch as usize)),
