@@ -1,5 +1,5 @@
 -- An array made: its elements, then its length, each a property more. Assumes nothing.
-use Rattle.std.specs.Prelude.{◌≡◌, ℕ, zero, suc, ◌+◌, ◌-◌, ◌*◌, ◌<◌, ◌≤◌, true, List, [], ◌∷◌, length, refl, Option, Ok, Err}
+use Rattle.std.specs.Prelude.{◌≡◌, ℕ, zero, suc, ◌+◌, ◌-◌, ◌*◌, ◌<◌, ◌≤◌, true, List, [], ◌∷◌, length, refl, Ok, Err}
 use native.Mathlib.Omega.{arith}
 use Rattle.std.proofs.Math.Option.{Option as Maybe, none, some}
 use Rattle.std.proofs.Common.{sym, subst, ◌∙◌, le-leb}
@@ -18,7 +18,6 @@ use Rattle.machine.specs.Out.{out, out_make, out_refused, Asked}
 use Rattle.value.specs.Lists.{bytes_of, row_of, row_length, row_ext}
 use Rattle.value.specs.Words.{value_of}
 use Rattle.value.specs.declared.Value.{Value}
-use Rattle.value.specs.declared.Value.TheVariants.{Number}
 use Rattle.value.specs.declared.Space.TheVariants.{Objects, Properties, Text}
 use Rattle.texts.specs.Keeps.{text_limit}
 use Rattle.number.specs.Layout.{Wrote}
@@ -194,11 +193,11 @@ module _ (z : Sizes) (w : List ℕ) (m : ℕ) (t : List ℕ) (good : Sized z w) 
     ready = (refl, refl);
   }
 
-  pub array_made : (y : Sizes) (w₁ : List ℕ) (e : ℕ) (w₂ t₂ : List ℕ) (bits : ℕ) (e₃ : ℕ) (w₃ t₃ : List ℕ) → z.objects < object_limit → z.properties + count < property_limit → m + keys_size 0 count ≤ text_limit
-      → Gives (A.add_kind St.array) z w y w₁ → Laying z.objects (given argc f) count y w₁ m t count e w₂ t₂ → bits ≡ N.whole count
-      → Lays w₂ (properties_at + 6 * (y.properties + count)) z.objects length_key (Number bits) e t₂ e₃ w₃ t₃
+  pub array_made : (y : Sizes) (w₁ : List ℕ) (e : ℕ) (w₂ t₂ : List ℕ) (v : Value) (e₃ : ℕ) (w₃ t₃ : List ℕ) → z.objects < object_limit → z.properties + count < property_limit → m + keys_size 0 count ≤ text_limit
+      → Gives (A.add_kind St.array) z w y w₁ → Laying z.objects (given argc f) count y w₁ m t count e w₂ t₂ → value_of v ≡ M.number (N.whole count)
+      → Lays w₂ (properties_at + 6 * (y.properties + count)) z.objects length_key v e t₂ e₃ w₃ t₃
       → Puts (A.add_array elements) z w m t (Ok ((with_properties (y.properties + count + 1) y), e₃)) w₃ t₃
-  array_made y w₁ e w₂ t₂ bits e₃ w₃ t₃ l k x gives laid whole lay = record {
+  array_made y w₁ e w₂ t₂ v e₃ w₃ t₃ l k x gives laid whole lay = record {
     goes = λ s p.
         out_make (on_stores z w m t s) (A.add_array elements) p refl
         (asked s none (Asked.yes (object_fits s l) (Asked.yes (rows_fit s k) (Asked.yes (rw (used_text s) (le-leb (m + keys_size 0 count) text_limit x)) Asked.all))))
@@ -216,7 +215,7 @@ module _ (z : Sizes) (w : List ℕ) (m : ℕ) (t : List ℕ) (good : Sized z w) 
       c = with_properties (y.properties + count) y
 
       sized : Sized (with_properties (y.properties + count + 1) y) w₃
-      sized = property_sized c w₂ e t₂ laid.sized (omega (arith, room)) laid.long z.objects length_key (Number bits) w₃ z.objects e 6 (omega (arith, same)) lay.row
+      sized = property_sized c w₂ e t₂ laid.sized (omega (arith, room)) laid.long z.objects length_key v w₃ z.objects e 6 (omega (arith, same)) lay.row
 
       whole_left : left (given argc f) count 0 ≡ A.elements 0 elements
       whole_left =
@@ -226,8 +225,8 @@ module _ (z : Sizes) (w : List ℕ) (m : ℕ) (t : List ℕ) (good : Sized z w) 
 
       state : (s : St.State) → on_stores (with_properties (y.properties + count + 1) y) w₃ e₃ t₃ s ≡ A.apply (A.add_array elements) (on_stores z w m t s)
       state s =
-          property_laid c w₂ e t₂ laid.sized (omega (arith, room)) laid.long z.objects length_key (Number bits) e₃ w₃ t₃ (omega (arith, same)) (omega (arith, room)) lay s
-          ∙ ap (λ (u : ℕ). A.add_property z.objects length_key (M.number u) (on_stores c w₂ e t₂ s)) whole
+          property_laid c w₂ e t₂ laid.sized (omega (arith, room)) laid.long z.objects length_key v e₃ w₃ t₃ (omega (arith, same)) (omega (arith, room)) lay s
+          ∙ ap (λ (u : M.Value). A.add_property z.objects length_key u (on_stores c w₂ e t₂ s)) whole
           ∙ sym (ap (λ (u : List (List ℕ × M.Value)). A.add_properties z.objects u (on_stores c w₂ e t₂ s)) (left_none (given argc f) count))
           ∙ laid.state s
           ∙ ap (λ (u : List (List ℕ × M.Value)). A.add_properties z.objects u (on_stores y w₁ m t s)) whole_left

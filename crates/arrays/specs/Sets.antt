@@ -17,28 +17,26 @@ use Rattle.value.specs.Arena.{apart_below}
 use Rattle.value.specs.Lists.{bytes_of, row_length, row_ext, row_at_lem}
 use Rattle.value.specs.Words.{value_of, value_at, set_value, value_apart}
 use Rattle.value.specs.declared.Value.{Value}
-use Rattle.value.specs.declared.Value.TheVariants.{Number}
-use Rattle.value.specs.declared.Space.TheVariants.{Properties, Text}
-use Rattle.number.specs.Signs.{whole_wrap}
+use Rattle.value.specs.declared.Space.TheVariants.{Properties}
 use Rattle.texts.specs.Keeps.{text_limit}
 use Rattle.texts.specs.Overwrite.{overwrite_below, overwrite_under}
 use Rattle.texts.specs.Sources.{source_bytes, stores_of}
 use Rattle.texts.specs.Spans.{Places}
-use Rattle.texts.specs.declared.Part.{Part}
+use Rattle.std.specs.declared.ops.Range.{Range}
 use Rattle.texts.specs.declared.Source.{Source}
-use Rattle.texts.specs.declared.Source.TheVariants.{Code, Text as Text-as-Source, Buffer}
+use Rattle.texts.specs.declared.Source.TheVariants.{Text as Text-as-Source}
 use Rattle.convert.specs.Keys.{key_of}
 use Rattle.heap.specs.Layout.{property_limit, properties_at, globals_at}
 use Rattle.heap.specs.View.{Sized, on_heap, objects_of, properties_of, kind_in, property_of, row_at, set_row}
-use Rattle.heap.specs.Rows.{Finds, finds_ext}
+use Rattle.heap.specs.Rows.{Finds}
 use Rattle.heap.specs.Tables.{table_kept, set_row_apart}
-use Rattle.heap.specs.Finds.{pair_at, property_at, property_none}
+use Rattle.heap.specs.Finds.{stores, pair_at, property_at, property_none}
 use Rattle.heap.specs.Laws.{with_properties, in_properties, apart_wider}
 use Rattle.heap.specs.declared.Sizes.{Sizes}
 use Rattle.heap.specs.declared.ObjectType.{ObjectType}
-use Rattle.heap.specs.declared.ObjectType.TheVariants.{Ordinary, Array, NoObject}
-use Rattle.objects.specs.View.{on_stores, placed_then, PlacedReady, Puts, Lays}
-use Rattle.objects.specs.Puts.{property_there, property_full, property_long, property_new}
+use Rattle.heap.specs.declared.ObjectType.TheVariants.{Ordinary, Array}
+use Rattle.objects.specs.View.{on_stores, placed_then, PlacedReady, Puts, Lays, Rooms, Seeks, PutsRow}
+use Rattle.objects.specs.Puts.{seeks_ext, property_there, property_refused, property_put, sought_refused, sought_put}
 use Rattle.value.specs.declared.Space.{Space}
 
 -- What an answer leaves: a refusal may alter words and bytes above those in use, and nothing else.
@@ -71,20 +69,20 @@ Stretches o i k v z w m t r w' t' = Runs (λ s. make (A.put_property o length_ke
 pub sets_nothing : (o : M.Value) (k : List ℕ) (v : M.Value) (z : Sizes) (w : List ℕ) (m : ℕ) (t : List ℕ) → I.set_property o k v ≡ next → Sized z w → m ≤ text_limit → Sets o k v z w m t (Ok (z, m)) w t
 sets_nothing o k v z w m t e good h = record { goes = λ s. ap (λ (p : Program). out p (on_stores z w m t s)) e; ready = (good, h) }
 
-module _ (z : Sizes) (w : List ℕ) (m : ℕ) (t : List ℕ) (o : ℕ) (k : List ℕ) (v : M.Value) (r : ObjectType) (kind : kind_in r ≡ get_elem? (objects_of w z.objects) o) where
-  as_kind : (s : St.State) (y : ObjectType) → r ≡ y → out (I.set_property (M.object o) k v) (on_stores z w m t s) ≡ out (I.set_in (on_stores z w m t s) o (kind_in y) k v) (on_stores z w m t s)
+module _ (z : Sizes) (w : List ℕ) (m : ℕ) (t : List ℕ) (o : ℕ) (k : List ℕ) (v : M.Value) (r : Option ObjectType) (kind : kind_in r ≡ get_elem? (objects_of w z.objects) o) where
+  as_kind : (s : St.State) (y : Option ObjectType) → r ≡ y → out (I.set_property (M.object o) k v) (on_stores z w m t s) ≡ out (I.set_in (on_stores z w m t s) o (kind_in y) k v) (on_stores z w m t s)
   as_kind s y e =
       out_look (on_stores z w m t s) (λ s. I.set_in s o (get_elem? s.objects o) k v)
       ∙ ap (λ (x : Maybe St.Kind). out (I.set_in (on_stores z w m t s) o x k v) (on_stores z w m t s)) (sym (ap kind_in (sym e) ∙ kind))
 
-  pub sets_unknown : r ≡ NoObject → Sized z w → m ≤ text_limit → Sets (M.object o) k v z w m t (Ok (z, m)) w t
-  sets_unknown e good h = record { goes = λ s. as_kind s NoObject e; ready = (good, h) }
+  pub sets_unknown : r ≡ None → Sized z w → m ≤ text_limit → Sets (M.object o) k v z w m t (Ok (z, m)) w t
+  sets_unknown e good h = record { goes = λ s. as_kind s None e; ready = (good, h) }
 
-  pub sets_ordinary : (x : Result (Sizes × ℕ) Space) (w' t' : List ℕ) → r ≡ Ordinary → Sized z w → Puts (A.put_property o k v) z w m t x w' t' → Sets (M.object o) k v z w m t x w' t'
-  sets_ordinary x w' t' e good p = record { goes = λ s. as_kind s Ordinary e ∙ p.goes s next; ready = leaves z w m t x w' t' good p.ready }
+  pub sets_ordinary : (x : Result (Sizes × ℕ) Space) (w' t' : List ℕ) → r ≡ Some Ordinary → Sized z w → Puts (A.put_property o k v) z w m t x w' t' → Sets (M.object o) k v z w m t x w' t'
+  sets_ordinary x w' t' e good p = record { goes = λ s. as_kind s (Some Ordinary) e ∙ p.goes s next; ready = leaves z w m t x w' t' good p.ready }
 
-  pub sets_array : (x : Result (Sizes × ℕ) Space) (w' t' : List ℕ) → r ≡ Array → SetsIn o k v z w m t x w' t' → Sets (M.object o) k v z w m t x w' t'
-  sets_array x w' t' e p = record { goes = λ s. as_kind s Array e ∙ p.goes s; ready = p.ready }
+  pub sets_array : (x : Result (Sizes × ℕ) Space) (w' t' : List ℕ) → r ≡ Some Array → SetsIn o k v z w m t x w' t' → Sets (M.object o) k v z w m t x w' t'
+  sets_array x w' t' e p = record { goes = λ s. as_kind s (Some Array) e ∙ p.goes s; ready = p.ready }
 
 -- Into an array
 abbrev stretched : Bool → ℕ → ℕ → Program → Program
@@ -105,7 +103,7 @@ module _ (z : Sizes) (w : List ℕ) (m : ℕ) (t : List ℕ) (o : ℕ) (k : List
     pub array_missing : (x : Result (Sizes × ℕ) Space) (w' t' : List ℕ) → q ≡ None → Stretches o i k v z w m t x w' t' → SetsIn o k v z w m t x w' t'
     array_missing x w' t' e p = record {
       goes = λ s.
-          let own : M.undefined ≡ St.property (on_stores z w m t s) o length_key = property_none (bytes_of t m) w o length_key z.properties q f s.code e in
+          let own : M.undefined ≡ St.property (on_stores z w m t s) o length_key = property_none (stores s.code (bytes_of t m)) w o length_key z.properties q f e in
           as_key (on_stores z w m t s) (Some i) index
           ∙ ap (λ (x : Bool). out (stretched x o i puts) (on_stores z w m t s)) (ap (λ (x : M.Value). nat_lt i (length_floor x)) (sym own) ∙ le-ltb i 0 (omega arith))
           ∙ p.goes s;
@@ -115,7 +113,7 @@ module _ (z : Sizes) (w : List ℕ) (m : ℕ) (t : List ℕ) (o : ℕ) (k : List
     module _ (j : ℕ) (at : q ≡ Some j) (l : Value) (length_is : value_of l ≡ value_at w (properties_at + 6 * j + 3)) (floor : ℕ) (floor-is : floor ≡ length_floor (value_of l)) where
       as_floor : (s : St.State) (b : Bool) → nat_lt i floor ≡ b → out (I.stretch (on_stores z w m t s) o (array_key k) puts) (on_stores z w m t s) ≡ out (stretched b o i puts) (on_stores z w m t s)
       as_floor s b e =
-          let own : value_of l ≡ St.property (on_stores z w m t s) o length_key = property_at (bytes_of t m) w o length_key z.properties q f s.code j l at length_is in
+          let own : value_of l ≡ St.property (on_stores z w m t s) o length_key = property_at (stores s.code (bytes_of t m)) w o length_key z.properties q f j l at length_is in
           as_key (on_stores z w m t s) (Some i) index
           ∙ ap (λ (x : Bool). out (stretched x o i puts) (on_stores z w m t s)) (ap (λ (x : ℕ). ltb i x) (sym (floor-is ∙ ap length_floor own)) ∙ e)
 
@@ -135,49 +133,40 @@ pair_kept t w o k j v i =
 
 -- An array with its length: it is changed, then the key put. The questions are asked before the first write.
 module _ (z : Sizes) (w : List ℕ) (m : ℕ) (t : List ℕ) (good : Sized z w) (h : m ≤ text_limit) (long : length t ≡ text_limit) (o i : ℕ) (k : List ℕ) (v : Value)
-    (j : ℕ) (f : Finds (pair_at (bytes_of t m) w o length_key) z.properties (Some j)) (bits : ℕ) (whole : bits ≡ N.whole (N.wrap (i + 1)))
-    (q : Option ℕ) (g : Finds (pair_at (bytes_of t m) w o k) z.properties q) where
+    (j : ℕ) (f : Finds (pair_at (bytes_of t m) w o length_key) z.properties (Some j)) (n : Value) (whole : value_of n ≡ M.number (N.whole (i + 1)))
+    {x : Result (Option ℕ) Space} (g : Seeks (pair_at (bytes_of t m) w o k) z.properties m (length k) x) where
   abbrev w₁ : List ℕ
-  w₁ = set_value w (properties_at + 6 * j + 3) (Number bits)
+  w₁ = set_value w (properties_at + 6 * j + 3) n
 
-  first : Puts (A.put_property o length_key (M.number bits)) z w m t (Ok (z, m)) w₁ t
-  first = property_there z w m t good h long o length_key (Some j) f (Number bits) j w₁ refl refl
+  first : Puts (A.put_property o length_key (value_of n)) z w m t (Ok (z, m)) w₁ t
+  first = property_there z w m t good h long o length_key (Some j) f n j w₁ refl refl
 
   sized : Sized z w₁
   sized = first.ready.0
 
-  found : Finds (pair_at (bytes_of t m) w₁ o k) z.properties q
-  found = finds_ext (pair_kept (bytes_of t m) w o k j (Number bits)) g
+  sought : Seeks (pair_at (bytes_of t m) w₁ o k) z.properties m (length k) x
+  sought = seeks_ext (pair_kept (bytes_of t m) w o k j n) g
 
   both : (x : Result (Sizes × ℕ) Space) (w' t' : List ℕ) → Puts (A.put_property o k (value_of v)) z w₁ m t x w' t' → (s : St.State)
       → out (make (A.put_property o length_key (M.number (N.whole (i + 1)))) (make (A.put_property o k (value_of v)) next)) (on_stores z w m t s) ≡ placed_then x next w' t' s
   both x w' t' p s =
-      ap (λ (u : ℕ). out (make (A.put_property o length_key (M.number u)) (make (A.put_property o k (value_of v)) next)) (on_stores z w m t s)) (sym (whole ∙ whole_wrap (i + 1)))
+      ap (λ (u : M.Value). out (make (A.put_property o length_key u) (make (A.put_property o k (value_of v)) next)) (on_stores z w m t s)) (sym whole)
       ∙ first.goes s (make (A.put_property o k (value_of v)) next) ∙ p.goes s next
 
-  pub stretched_there : (p : ℕ) (w₂ w' : List ℕ) → q ≡ Some p → w₂ ≡ w₁ → w' ≡ set_value w₂ (properties_at + 6 * p + 3) v → Stretches o i k (value_of v) z w m t (Ok (z, m)) w' t
-  stretched_there p w₂ w' e c d =
-      let y = property_there z w₁ m t sized h long o k q found v p w' e (d ∙ ap (λ (x : List ℕ). set_value x (properties_at + 6 * p + 3) v) c) in
-      record { goes = both (Ok (z, m)) w' t y; ready = y.ready }
+  pub stretched_refused : (q : Space) → x ≡ Err q → Stretches o i k (value_of v) z w m t (Err q) w t
+  stretched_refused q e = record { goes = both (Err q) w₁ t (sought_refused z w₁ m t sized h long o k v sought q e); ready = (λ s. refl, good) }
 
-  pub stretched_full : q ≡ None → property_limit ≤ z.properties → Stretches o i k (value_of v) z w m t (Err Properties) w t
-  stretched_full e l = record { goes = both (Err Properties) w₁ t (property_full z w₁ m t sized h long o k q found v e l); ready = (λ s. refl, good) }
-
-  pub stretched_long : q ≡ None → z.properties < property_limit → text_limit < m + length k → Stretches o i k (value_of v) z w m t (Err Text) w t
-  stretched_long e l d = record { goes = both (Err Text) w₁ t (property_long z w₁ m t sized h long o k q found v e l d); ready = (λ s. refl, good) }
-
-  pub stretched_new : (e : ℕ) (w₂ w' t' : List ℕ) → q ≡ None → z.properties < property_limit → m + length k ≤ text_limit → w₂ ≡ w₁
-      → Lays w₂ (properties_at + 6 * z.properties) o k v m t e w' t' → Stretches o i k (value_of v) z w m t (Ok ((with_properties (z.properties + 1) z), e)) w' t'
-  stretched_new e w₂ w' t' n l d c lay =
-      let own : Lays w₁ (properties_at + 6 * z.properties) o k v m t e w' t' = subst (λ (x : List ℕ). Lays x (properties_at + 6 * z.properties) o k v m t e w' t') c lay in
-      let y = property_new z w₁ m t sized h long o k q found v n e w' t' l d own in
-      record { goes = both (Ok ((with_properties (z.properties + 1) z), e)) w' t' y; ready = y.ready }
+  pub stretched_put : (r : Option ℕ) → x ≡ Ok r → (p : ℕ × ℕ) (w₂ w' t' : List ℕ) → w₂ ≡ w₁ → PutsRow properties_at z.properties r o k v w₂ m t p w' t'
+      → Stretches o i k (value_of v) z w m t (Ok (with_properties p.0 z, p.1)) w' t'
+  stretched_put r e p w₂ w' t' c d =
+      let y = sought_put z w₁ m t sized h long o k v sought r e p w' t' (rw c at d) in
+      record { goes = both (Ok (with_properties p.0 z, p.1)) w' t' y; ready = y.ready }
 
 -- A source that names the same bytes when text is added
 pub record Settles (m : ℕ) (key r : Source) : Type 0 where
   pub bytes : (c t t₁ b : List ℕ) (n e : ℕ) → m ≤ e → ((j : ℕ) → j < m → slice_index t₁ j ≡ slice_index t j) → source_bytes (stores_of c n t₁ e) b r ≡ source_bytes (stores_of c n t m) b key
 
-pub settles_text : (m : ℕ) (key : Source) (at size : ℕ) (p : Part) → key ≡ Text-as-Source at size → Places at size m p → Settles m key (Text-as-Source p.from (p.to - p.from))
+pub settles_text : (m : ℕ) (key : Source) (at size : ℕ) (p : Range ℕ) → key ≡ Text-as-Source at size → Places at size m p → Settles m key (Text-as-Source p.start (p.end - p.start))
 settles_text m key at size p q l = rw q (record {
   bytes = λ c t t₁ b n e h f.
       let long : length (bytes_of t₁ e) ≡ e = row_length e (λ i. slice_index t₁ i) in
@@ -186,62 +175,56 @@ settles_text m key at size p q l = rw q (record {
       l.bytes (bytes_of t₁ e) (omega (arith, long)) ∙ ap (λ (x : List ℕ). take size (drop at x)) low;
 })
 
-pub settles_code : (m : ℕ) (key : Source) (at size : ℕ) → key ≡ Code at size → Settles m key (Code at size)
-settles_code m key at size q = rw q (record { bytes = λ c t t₁ b n e h f. refl })
-
-pub settles_buffer : (m : ℕ) (key : Source) (size : ℕ) → key ≡ Buffer size → Settles m key (Buffer size)
-settles_buffer m key size q = rw q (record { bytes = λ c t t₁ b n e h f. refl })
-
 -- An array without its length: it is added, and then the key put into what that gives.
 module _ (z : Sizes) (w : List ℕ) (m : ℕ) (t : List ℕ) (good : Sized z w) (h : m ≤ text_limit) (long : length t ≡ text_limit) (o i : ℕ) (k : List ℕ) (v : M.Value)
-    (q : Option ℕ) (f : Finds (pair_at (bytes_of t m) w o length_key) z.properties q) (none : q ≡ None) (bits : ℕ) (whole : bits ≡ N.whole (N.wrap (i + 1))) where
-  after : (x : Result (Sizes × ℕ) Space) (w' t' : List ℕ) → Puts (A.put_property o length_key (M.number bits)) z w m t x w' t' → (s : St.State)
+    (f : Finds (pair_at (bytes_of t m) w o length_key) z.properties None) (n : Value) (whole : value_of n ≡ M.number (N.whole (i + 1))) where
+  after : (x : Result (Sizes × ℕ) Space) (w' t' : List ℕ) → Puts (A.put_property o length_key (value_of n)) z w m t x w' t' → (s : St.State)
       → out (make (A.put_property o length_key (M.number (N.whole (i + 1)))) (make (A.put_property o k v) next)) (on_stores z w m t s) ≡ placed_then x (make (A.put_property o k v) next) w' t' s
   after x w' t' p s =
-      ap (λ (u : ℕ). out (make (A.put_property o length_key (M.number u)) (make (A.put_property o k v) next)) (on_stores z w m t s)) (sym (whole ∙ whole_wrap (i + 1)))
+      ap (λ (u : M.Value). out (make (A.put_property o length_key u) (make (A.put_property o k v) next)) (on_stores z w m t s)) (sym whole)
       ∙ p.goes s (make (A.put_property o k v) next)
 
-  pub missing_full : property_limit ≤ z.properties → Stretches o i k v z w m t (Err Properties) w t
-  missing_full l = record { goes = after (Err Properties) w t (property_full z w m t good h long o length_key q f (Number bits) none l); ready = (λ s. refl, good) }
+  pub missing_refused : (q : Space) → Rooms property_limit Properties z.properties None m 6 (Err q) → Stretches o i k v z w m t (Err q) w t
+  missing_refused q g = record { goes = after (Err q) w t (property_refused z w m t good h long o length_key None f n q g); ready = (λ s. refl, good) }
 
-  pub missing_long : z.properties < property_limit → text_limit < m + 6 → Stretches o i k v z w m t (Err Text) w t
-  missing_long l d = record { goes = after (Err Text) w t (property_long z w m t good h long o length_key q f (Number bits) none l d); ready = (λ s. refl, good) }
-
-  module _ (e : ℕ) (w₁ t₁ : List ℕ) (l : z.properties < property_limit) (d : m + 6 ≤ text_limit) (lay : Lays w (properties_at + 6 * z.properties) o length_key (Number bits) m t e w₁ t₁) where
+  module _ (g : Rooms property_limit Properties z.properties None m 6 (Ok tt)) (p : ℕ × ℕ) (w₁ t₁ : List ℕ) (x : PutsRow properties_at z.properties None o length_key n w m t p w₁ t₁) where
     abbrev y : Sizes
-    y = with_properties (z.properties + 1) z
+    y = with_properties p.0 z
 
-    added : Puts (A.put_property o length_key (M.number bits)) z w m t (Ok (y, e)) w₁ t₁
-    added = property_new z w m t good h long o length_key q f (Number bits) none e w₁ t₁ l d lay
+    abbrev e : ℕ
+    e = p.1
 
-    pub missing_ready : Sized y w₁ × (e ≤ text_limit)
-    missing_ready = added.ready
+    lay : Lays w (properties_at + 6 * z.properties) o length_key n m t e w₁ t₁
+    lay = x.told.1
+
+    added : Puts (A.put_property o length_key (value_of n)) z w m t (Ok (y, e)) w₁ t₁
+    added = property_put z w m t good h long o length_key None f n g p w₁ t₁ x
 
     -- what stands below the new row and the new text is as it was
     below : (s : St.State) → on_stores z w₁ m t₁ s ≡ on_stores z w m t s
     below s =
-        let x = set_row w (properties_at + 6 * z.properties) o m 6 (Number bits) in
-        let a = set_row_apart w (properties_at + 6 * z.properties) o m 6 (Number bits) in
+        let x = set_row w (properties_at + 6 * z.properties) o m 6 n in
+        let a = set_row_apart w (properties_at + 6 * z.properties) o m 6 n in
         let rows : properties_of x z.properties ≡ properties_of w z.properties = table_kept property_of properties_at w z.properties x (apart_below a properties_at (properties_at + 6 * z.properties) (omega arith)) in
         let heap : on_heap z w₁ s ≡ on_heap z w s =
-        ap (λ (u : List ℕ). on_heap z u s) lay.row ∙ in_properties z w x good s z.properties (apart_wider properties_at globals_at a (omega arith) (omega arith))
+        ap (λ (u : List ℕ). on_heap z u s) lay.row ∙ in_properties z w x good s z.properties (apart_wider properties_at globals_at a (omega arith) (omega (arith, g.told)))
         ∙ ap (λ (u : List St.Property). Fi.set_properties u (on_heap z w s)) rows in
         let text : bytes_of t₁ m ≡ bytes_of t m = ap (λ (u : List ℕ). bytes_of u m) lay.text ∙ overwrite_under t m length_key (omega (arith, long)) m (omega arith) in
         ap (λ (u : St.State). Fi.set_text (bytes_of t₁ m) u) heap ∙ ap (λ (u : List ℕ). Fi.set_text u (on_heap z w s)) text
 
-    pub missing_settled : (c b : List ℕ) (n : ℕ) (key own : Source) → Settles m key own → k ≡ source_bytes (stores_of c n t m) b key → source_bytes (stores_of c n t₁ e) b own ≡ k
-    missing_settled c b n key own g p =
-        g.bytes c t t₁ b n e (omega (arith, lay.count)) (λ j r. ap (λ (u : List ℕ). slice_index u j) lay.text ∙ overwrite_below t m length_key (omega (arith, long)) j r) ∙ sym p
+    pub missing_settled : (c b : List ℕ) (d : ℕ) (key own : Source) → Settles m key own → k ≡ source_bytes (stores_of c d t m) b key → source_bytes (stores_of c d t₁ e) b own ≡ k
+    missing_settled c b d key own s q =
+        s.bytes c t t₁ b d e (omega (arith, lay.count)) (λ j r. ap (λ (u : List ℕ). slice_index u j) lay.text ∙ overwrite_below t m length_key (omega (arith, long)) j r) ∙ sym q
 
     pub missing_put : (x : Result (Sizes × ℕ) Space) (w₂ t₂ : List ℕ) (k' : List ℕ) → k' ≡ k → Puts (A.put_property o k' v) y w₁ e t₁ x w₂ t₂ → Stretches o i k v z w m t x w₂ t₂
-    missing_put x w₂ t₂ k' same p = record {
-      goes = λ s. after (Ok (y, e)) w₁ t₁ added s ∙ ap (λ (u : List ℕ). out (make (A.put_property o u v) next) (on_stores y w₁ e t₁ s)) (sym same) ∙ p.goes s next;
-      ready = left x p.ready;
+    missing_put x w₂ t₂ k' same d = record {
+      goes = λ s. after (Ok (y, e)) w₁ t₁ added s ∙ ap (λ (u : List ℕ). out (make (A.put_property o u v) next) (on_stores y w₁ e t₁ s)) (sym same) ∙ d.goes s next;
+      ready = left x d.ready;
     }
       where
         left : (x : Result (Sizes × ℕ) Space) → PlacedReady x w₁ t₁ w₂ t₂ → Leaves z w m t x w₂ t₂
         left (Ok (a, b)) r = r
         left (Err u) r = (
-          λ s. ap (λ (g : List ℕ). on_stores z g m t₂ s) r.0 ∙ ap (λ (g : List ℕ). on_stores z w₁ m g s) r.1 ∙ below s,
+          λ s. ap (λ (a : List ℕ). on_stores z a m t₂ s) r.0 ∙ ap (λ (a : List ℕ). on_stores z w₁ m a s) r.1 ∙ below s,
           record { functions = good.functions; objects = good.objects; properties = good.properties; globals = good.globals; size = ap length r.0 ∙ added.ready.0.size },
         )

@@ -3,16 +3,15 @@
 
 ghost use Rattle.std.specs.Prelude.{◌≡◌, ◌+◌, ◌*◌, ◌<◌, ◌≤◌, length};
 ghost use Rattle.machine.specs.Act.{add_array};
-ghost use Rattle.machine.specs.Convert.{array_key, length_key};
-ghost use Rattle.machine.specs.Value.{object};
+ghost use Rattle.machine.specs.Convert.{length_key};
+ghost use Rattle.machine.specs.Value.{number};
 ghost use Rattle.value.specs.Lists.{bytes_of};
-ghost use Rattle.convert.specs.Keys.{key_of};
 ghost use Rattle.texts.specs.Sources.{stores_of, source_bytes};
 ghost use Rattle.heap.specs.Rows.{Finds};
 ghost use Rattle.heap.specs.Finds.{pair_at};
 ghost use Rattle.arrays.specs.Sets.{Sets, SetsIn, Stretches, Settles};
 ghost use Rattle.machine.specs.Instruction.{exactly};
-ghost use Rattle.machine.specs.Number.{decimal};
+ghost use Rattle.machine.specs.Number.{decimal, whole};
 ghost use Rattle.machine.specs.State.{operand_limit};
 ghost use Rattle.machine.specs.NumberText.{longest_text};
 ghost use Rattle.value.specs.Words.{value_of, value_at};
@@ -26,27 +25,30 @@ ghost use Rattle.objects.specs.View.{Puts, Lays};
 ghost use Rattle.arrays.specs.Keys.{keys_size};
 ghost use Rattle.arrays.specs.Arrays.{given, Laying};
 
-use heap::{OBJECT_LIMIT, ObjectType, PROPERTIES_AT, PROPERTY_LIMIT, Sizes};
-use number::JsNumber;
+use heap::{Heap, OBJECT_LIMIT, ObjectType, PROPERTIES_AT, PROPERTY_LIMIT, Sizes};
 use number::format::LONGEST_TEXT;
-use texts::{Source, TEXT_LIMIT};
+use number::JsNumber;
+use objects::PROPERTIES;
+use texts::{Source, TEXT_LIMIT, Texts};
 use value::{Space, Value};
+
+fn whole(n: u64) -> Value
+    ensures { value_of result ≡ number (whole n) }
+{
+    Value::Number(JsNumber::js_int(n).bits)
+}
 
 // How many digits an element's number has.
 fn key_size(i: usize) -> usize
     requires { i < 10000 }
     ensures { (result ≡ length (decimal i)) × (result ≤ 4) }
 {
-    if i < 10 {
-        return 1;
+    match i {
+        0..=9 => 1,
+        10..=99 => 2,
+        100..=999 => 3,
+        _ => 4,
     }
-    if i < 100 {
-        return 2;
-    }
-    if i < 1000 {
-        return 3;
-    }
-    4
 }
 
 // The bytes of an array's keys, `length` among them.
@@ -54,11 +56,9 @@ fn keys_size(count: usize) -> usize
     requires { count ≤ property_limit }
     ensures { result ≡ keys_size 0 count }
 {
-    let mut i: usize = 0;
     let mut sum: usize = 0;
-    while i < count {
+    for i in 0..count {
         sum += key_size(i);
-        i += 1;
     }
     sum + 6
 }
@@ -67,8 +67,7 @@ pub fn element_key(i: usize, buffer: &mut [u8; LONGEST_TEXT]) -> Source
     requires { (i < 65536) × (length buffer.old ≡ longest_text) }
     ensures { Spells (λ m. decimal i) result buffer.new }
 {
-    let number = JsNumber::js_int(i as u64);
-    texts::spell::to_js_string(Value::Number(number.bits), buffer)
+    texts::spell::to_js_string(whole(i as u64), buffer)
 }
 
 // An array's element: the operands from number `from` on, and Undefined beyond the `argc` that stand.
@@ -119,13 +118,11 @@ fn lay_elements(
     requires argc_bound { (from + argc ≤ operand_limit) × (length stacks.now ≡ stack_words) }
     ensures { Laying id (given argc (λ j. value_at stacks.now (3 * (from + j)))) count z heap.old m text.old count result heap.new text.new }
 {
-    let mut i: usize = 0;
     let mut e = m;
-    while i < count {
+    for i in 0..count {
         let v = element(stacks, from, argc, i);
         let k = PROPERTIES_AT + 6 * (z.properties + i);
         e = lay_element(heap, k, text, e, id, i, v);
-        i += 1;
     }
     e
 }
@@ -156,11 +153,10 @@ pub fn add_array(
         return Err(Space::Text);
     }
     let id = z.objects as u64;
-    let y = heap::add_kind(z, heap, 1);
+    let y = heap::add_kind(z, heap, ObjectType::Array);
     let e = lay_elements(y, heap, text, m, stacks, from, argc, count, id);
-    let length = JsNumber::js_int(count as u64);
     let k = PROPERTIES_AT + 6 * (y.properties + count);
-    let v = Value::Number(length.bits);
+    let v = whole(count as u64);
     let end = objects::lay_row(
         heap,
         k,
@@ -173,43 +169,8 @@ pub fn add_array(
         Source::Buffer(6),
         v,
     );
-    let mut more = y;
-    more.properties = y.properties + count + 1;
-    Ok((more, end))
-}
-
-// Is a key the number of an element? (By the place of the key, as in `find_key`.)
-fn key_index(
-    code: &[u8],
-    n: usize,
-    text: &[u8],
-    m: usize,
-    buffer: &[u8],
-    key: Source,
-) -> Option<u64>
-    requires { (n ≤ length code.now) × (m ≤ length text.now) }
-    ensures { key_of result ≡ array_key (source_bytes (stores_of code.now n text.now m) buffer.now key) }
-{
-    match key {
-        Source::Code(at, size) => {
-            let p = texts::locate(at, size, n);
-            let from = p.from;
-            let to = p.to;
-            convert::array_key(&code[from..to])
-        }
-        Source::Text(at, size) => {
-            let p = texts::locate(at, size, m);
-            let from = p.from;
-            let to = p.to;
-            convert::array_key(&text[from..to])
-        }
-        Source::Buffer(size) => {
-            let p = texts::locate(0, size, buffer.len());
-            let from = p.from;
-            let to = p.to;
-            convert::array_key(&buffer[from..to])
-        }
-    }
+    let properties = y.properties + count + 1;
+    Ok((Sizes { properties, ..y }, end))
 }
 
 // A store under element number i of an array, at or above its length, whose property is number j: first the length, then the element.
@@ -234,25 +195,12 @@ fn stretch(
     ensures { Stretches id i (source_bytes (stores_of code.now n text.old m) buffer.now key) (value_of v) z heap.old m text.old result heap.new text.new }
 {
     let count = z.properties;
-    let length = JsNumber::js_int(std::num::wrapping_add_u64(i, 1));
-    let long = Value::Number(length.bits);
-    let Some(p) = objects::find_key(heap, count, code, n, text, m, buffer, id, key) else {
-        if PROPERTY_LIMIT <= count {
-            return Err(Space::Properties);
-        }
-        if TEXT_LIMIT - m < texts::size_of(n, m, buffer.len(), key) {
-            return Err(Space::Text);
-        }
-        value::write(heap, PROPERTIES_AT + 6 * j + 3, long);
-        let k = PROPERTIES_AT + 6 * count;
-        let e = objects::lay_row(heap, k, code, n, text, m, buffer, id, key, v);
-        let mut more = z;
-        more.properties = count + 1;
-        return Ok((more, e));
-    };
-    value::write(heap, PROPERTIES_AT + 6 * j + 3, long);
-    value::write(heap, PROPERTIES_AT + 6 * p + 3, v);
-    Ok((z, m))
+    let found = objects::seek_property(heap, count, code, n, text, m, buffer, id, key)?;
+    value::write(heap, PROPERTIES_AT + 6 * j + 3, whole(i.wrapping_add(1)));
+    let (properties, e) = objects::put_row(
+        PROPERTIES, count, found, heap, code, n, text, m, buffer, id, key, v,
+    );
+    Ok((Sizes { properties, ..z }, e))
 }
 
 // A key that names the same bytes when text is added behind the m bytes in use.
@@ -260,14 +208,11 @@ fn settled(key: Source, m: usize) -> Source
     ensures { Settles m key result }
 {
     match key {
-        Source::Code(at, size) => Source::Code(at, size),
         Source::Text(at, size) => {
-            let p = texts::locate(at, size, m);
-            let from = p.from;
-            let count = p.to - from;
-            Source::Text(from as u64, count as u64)
+            let part = texts::locate(at, size, m);
+            Source::Text(part.start as u64, (part.end - part.start) as u64)
         }
-        Source::Buffer(size) => Source::Buffer(size),
+        other => other,
     }
 }
 
@@ -291,30 +236,23 @@ fn stretch_bare(
     ensures { Stretches id i (source_bytes (stores_of code.now n text.old m) buffer.now key) (value_of v) z heap.old m text.old result heap.new text.new }
 {
     let count = z.properties;
-    if PROPERTY_LIMIT <= count {
-        return Err(Space::Properties);
-    }
-    if TEXT_LIMIT - m < 6 {
-        return Err(Space::Text);
-    }
-    let length = JsNumber::js_int(std::num::wrapping_add_u64(i, 1));
-    let long = Value::Number(length.bits);
+    objects::room(PROPERTIES, count, None, m, 6)?;
     let own = settled(key, m);
-    let k = PROPERTIES_AT + 6 * count;
-    let e = objects::lay_row(
+    let (properties, e) = objects::put_row(
+        PROPERTIES,
+        count,
+        None,
         heap,
-        k,
-        code,
-        n,
+        b"",
+        0,
         text,
         m,
         b"length",
         id,
         Source::Buffer(6),
-        long,
+        whole(i.wrapping_add(1)),
     );
-    let mut more = z;
-    more.properties = count + 1;
+    let more = Sizes { properties, ..z };
     objects::put_property(more, heap, code, n, text, e, buffer, id, own, v)
 }
 
@@ -335,11 +273,11 @@ fn set_element(
     requires n_in_bounds { (n ≤ length code.now) × (m ≤ text_limit) × (length text.old ≡ text_limit) }
     ensures { SetsIn id (source_bytes (stores_of code.now n text.old m) buffer.now key) (value_of v) z heap.old m text.old result heap.new text.new }
 {
-    let Some(i) = key_index(code, n, text, m, buffer, key) else {
+    let texts = Texts::new(code, n, text, m);
+    let Some(i) = convert::array_key(texts.bytes_of(buffer, key)) else {
         return objects::put_property(z, heap, code, n, text, m, buffer, id, key, v);
     };
-    let count = z.properties;
-    let Some(j) = heap::find_property(text, m, heap, count, id, b"length") else {
+    let Some(j) = heap::find_property(texts.text(), heap, z.properties, id, b"length") else {
         return stretch_bare(z, heap, code, n, text, m, buffer, id, key, v, i);
     };
     let length = value::read(heap, PROPERTIES_AT + 6 * j + 3);
@@ -347,32 +285,6 @@ fn set_element(
         return objects::put_property(z, heap, code, n, text, m, buffer, id, key, v);
     }
     stretch(z, heap, code, n, text, m, buffer, id, key, v, j, i)
-}
-
-// A store into an object.
-fn set_object(
-    z: Sizes,
-    heap: &mut [u64],
-    code: &[u8],
-    n: usize,
-    text: &mut [u8],
-    m: usize,
-    buffer: &[u8],
-    id: u64,
-    key: Source,
-    v: Value,
-) -> Result<(Sizes, usize), Space>
-    requires sized { Sized z heap.old }
-    requires n_in_bounds { (n ≤ length code.now) × (m ≤ text_limit) × (length text.old ≡ text_limit) }
-    ensures { Sets (object id) (source_bytes (stores_of code.now n text.old m) buffer.now key) (value_of v) z heap.old m text.old result heap.new text.new }
-{
-    match heap::object_type(z, heap, id) {
-        ObjectType::NoObject => Ok((z, m)),
-        ObjectType::Ordinary => objects::put_property(
-            z, heap, code, n, text, m, buffer, id, key, v,
-        ),
-        ObjectType::Array => set_element(z, heap, code, n, text, m, buffer, id, key, v),
-    }
 }
 
 /// A store into a property of any value: questions 25 and 27 for a new key of a known object.
@@ -392,14 +304,14 @@ pub fn set_property(
     requires n_in_bounds { (n ≤ length code.now) × (m ≤ text_limit) × (length text.old ≡ text_limit) }
     ensures { Sets (value_of target) (source_bytes (stores_of code.now n text.old m) buffer.now key) (value_of v) z heap.old m text.old result heap.new text.new }
 {
-    match target {
-        Value::Undefined => Ok((z, m)),
-        Value::Null => Ok((z, m)),
-        Value::Boolean(_) => Ok((z, m)),
-        Value::Number(_) => Ok((z, m)),
-        Value::CodeText(_, _) => Ok((z, m)),
-        Value::MadeText(_, _) => Ok((z, m)),
-        Value::Object(id) => set_object(z, heap, code, n, text, m, buffer, id, key, v),
-        Value::Function(_) => Ok((z, m)),
+    let Value::Object(id) = target else {
+        return Ok((z, m));
+    };
+    match Heap::new(z, heap).object_type(id) {
+        None => Ok((z, m)),
+        Some(ObjectType::Ordinary) => objects::put_property(
+            z, heap, code, n, text, m, buffer, id, key, v,
+        ),
+        Some(ObjectType::Array) => set_element(z, heap, code, n, text, m, buffer, id, key, v),
     }
 }

@@ -1,3 +1,2 @@
-pub mod Truth
 pub mod Shows
 pub mod Keys

@@ -2,172 +2,94 @@
 #![tactic(auto)]
 
 ghost use Rattle.std.specs.Prelude.{◌≡◌, ◌-◌, ◌≤◌};
-ghost use Rattle.machine.specs.Convert.{to_number, strict_eq, abstract_eq, loose_seen, see, digits_key, array_key, length_floor};
+ghost use Rattle.machine.specs.Convert.{to_boolean, to_number, strict_eq, abstract_eq, loose_seen, see, digits_key, array_key, length_floor};
 ghost use Rattle.value.specs.Words.{value_of};
-ghost use Rattle.texts.specs.Sources.{InUse, stores_of};
-ghost use Rattle.convert.specs.Truth.{Truth};
-ghost use Rattle.convert.specs.Shows.{Shows};
+ghost use Rattle.convert.specs.Shows.{seen_of};
 ghost use Rattle.convert.specs.Keys.{key_of};
 
 use number::JsNumber;
-use texts::{Source, bytes_of, equal_bytes, size_of};
+use texts::Texts;
 use value::Value;
 
 // No byte of a text is read: its length says enough.
-pub fn to_boolean(n: usize, m: usize, v: Value) -> bool
-    ensures { Truth n m (value_of v) result }
+pub fn to_boolean(texts: &Texts, v: Value) -> bool
+    ensures { result ≡ to_boolean texts.now (value_of v) }
 {
     match v {
-        Value::Undefined => false,
-        Value::Null => false,
+        Value::Undefined | Value::Null => false,
         Value::Boolean(b) => b,
-        Value::Number(x) => if x == JsNumber::JS_ZERO.bits {
-            false
-        } else {
-            x != JsNumber::JS_NAN.bits
-        },
-        Value::CodeText(at, size) => size_of(n, m, 0, Source::Code(at, size)) != 0,
-        Value::MadeText(at, size) => size_of(n, m, 0, Source::Text(at, size)) != 0,
-        Value::Object(_) => true,
-        Value::Function(_) => true,
+        Value::Number(x) => x != JsNumber::JS_ZERO.bits && x != JsNumber::JS_NAN.bits,
+        Value::CodeText(at, size) => !texts.code_text(at, size).is_empty(),
+        Value::MadeText(at, size) => !texts.made_text(at, size).is_empty(),
+        Value::Object(_) | Value::Function(_) => true,
     }
 }
 
-pub fn to_number<'a>(code: &'a [u8], n: usize, text: &'a [u8], m: usize, v: Value) -> JsNumber
-    requires { InUse code.now n text.now m }
-    ensures { result.bits ≡ to_number (stores_of code.now n text.now m) (value_of v) }
+pub fn to_number(texts: &Texts, v: Value) -> JsNumber
+    ensures { result.bits ≡ to_number texts.now (value_of v) }
 {
     match v {
         Value::Undefined => JsNumber::JS_NAN,
         Value::Null => JsNumber::JS_ZERO,
-        Value::Boolean(b) => if b {
-            JsNumber::JS_ONE
-        } else {
-            JsNumber::JS_ZERO
-        },
+        Value::Boolean(true) => JsNumber::JS_ONE,
+        Value::Boolean(false) => JsNumber::JS_ZERO,
         Value::Number(x) => JsNumber::raw(x),
-        Value::CodeText(at, size) => {
-            let source = Source::Code(at, size);
-            JsNumber::parse_js_number(bytes_of(code, n, text, m, code, source))
-        }
-        Value::MadeText(at, size) => {
-            let source = Source::Text(at, size);
-            JsNumber::parse_js_number(bytes_of(code, n, text, m, code, source))
-        }
-        Value::Object(_) => JsNumber::JS_NAN,
-        Value::Function(_) => JsNumber::JS_NAN,
+        Value::CodeText(at, size) => JsNumber::parse_js_number(texts.code_text(at, size)),
+        Value::MadeText(at, size) => JsNumber::parse_js_number(texts.made_text(at, size)),
+        Value::Object(_) | Value::Function(_) => JsNumber::JS_NAN,
     }
 }
 
-/// What `===` sees of a value: a text, or a kind with its content.
-#[derive(Clone, Copy)]
-pub enum Shown {
-    Text(Source),
-    Plain(u64, u64),
+/// What `===` and `==` see of a value.
+#[derive(Clone, Copy, PartialEq)]
+pub enum Shown<'a> {
+    Undefined,
+    Null,
+    Boolean(bool),
+    Number(u64),
+    Text(&'a [u8]),
+    Object(u64),
+    Function(u64),
 }
 
-const NUMBER: u64 = 3;
-
-pub fn show(v: Value) -> Shown
-    ensures { Shows (value_of v) result }
+pub fn show<'a>(texts: &Texts<'a>, v: Value) -> Shown<'a>
+    ensures { seen_of result ≡ see texts.now (value_of v) }
 {
     match v {
-        Value::Undefined => Shown::Plain(0, 0),
-        Value::Null => Shown::Plain(1, 0),
-        Value::Boolean(b) => {
-            if b {
-                return Shown::Plain(2, 1);
-            }
-            Shown::Plain(2, 0)
-        }
-        Value::Number(x) => Shown::Plain(NUMBER, x),
-        Value::CodeText(at, size) => Shown::Text(Source::Code(at, size)),
-        Value::MadeText(at, size) => Shown::Text(Source::Text(at, size)),
-        Value::Object(i) => Shown::Plain(5, i),
-        Value::Function(i) => Shown::Plain(6, i),
+        Value::Undefined => Shown::Undefined,
+        Value::Null => Shown::Null,
+        Value::Boolean(b) => Shown::Boolean(b),
+        Value::Number(x) => Shown::Number(x),
+        Value::CodeText(at, size) => Shown::Text(texts.code_text(at, size)),
+        Value::MadeText(at, size) => Shown::Text(texts.made_text(at, size)),
+        Value::Object(i) => Shown::Object(i),
+        Value::Function(i) => Shown::Function(i),
     }
 }
 
-pub fn strict_eq<'a>(code: &'a [u8], n: usize, text: &'a [u8], m: usize, v: Value, u: Value) -> bool
-    requires { InUse code.now n text.now m }
-    ensures { result ≡ strict_eq (stores_of code.now n text.now m) (value_of v) (value_of u) }
+pub fn strict_eq(texts: &Texts, v: Value, u: Value) -> bool
+    ensures { result ≡ strict_eq texts.now (value_of v) (value_of u) }
 {
-    let first = show(v);
-    let second = show(u);
-    match first {
-        Shown::Text(a) => {
-            let Shown::Text(b) = second else {
-                return false;
-            };
-            equal_bytes(
-                bytes_of(code, n, text, m, code, a),
-                bytes_of(code, n, text, m, code, b),
-            )
-        }
-        Shown::Plain(k, x) => {
-            let Shown::Plain(l, y) = second else {
-                return false;
-            };
-            if k != l {
-                return false;
-            }
-            x == y
-        }
-    }
+    show(texts, v) == show(texts, u)
 }
 
 // Where `===` says no: null with undefined, and a number with a text that reads as it.
-pub fn loose_eq<'a>(code: &'a [u8], n: usize, text: &'a [u8], m: usize, v: Value, u: Value) -> bool
-    requires { InUse code.now n text.now m }
-    ensures { result ≡ loose_seen (see (stores_of code.now n text.now m) (value_of v)) (see (stores_of code.now n text.now m) (value_of u)) }
+pub fn loose_eq(texts: &Texts, v: Value, u: Value) -> bool
+    ensures { result ≡ loose_seen (see texts.now (value_of v)) (see texts.now (value_of u)) }
 {
-    let first = show(v);
-    let second = show(u);
-    match first {
-        Shown::Text(a) => {
-            let Shown::Plain(l, y) = second else {
-                return false;
-            };
-            if l != NUMBER {
-                return false;
-            }
-            JsNumber::parse_js_number(bytes_of(code, n, text, m, code, a)).bits == y
+    match (show(texts, v), show(texts, u)) {
+        (Shown::Undefined, Shown::Null) | (Shown::Null, Shown::Undefined) => true,
+        (Shown::Number(x), Shown::Text(t)) | (Shown::Text(t), Shown::Number(x)) => {
+            JsNumber::parse_js_number(t).bits == x
         }
-        Shown::Plain(k, x) => match second {
-            Shown::Text(b) => {
-                if k != NUMBER {
-                    return false;
-                }
-                x == JsNumber::parse_js_number(bytes_of(code, n, text, m, code, b)).bits
-            }
-            Shown::Plain(l, _) => {
-                if k == 0 {
-                    return l == 1;
-                }
-                if k != 1 {
-                    return false;
-                }
-                l == 0
-            }
-        },
+        _ => false,
     }
 }
 
-pub fn abstract_eq<'a>(
-    code: &'a [u8],
-    n: usize,
-    text: &'a [u8],
-    m: usize,
-    v: Value,
-    u: Value,
-) -> bool
-    requires { InUse code.now n text.now m }
-    ensures { result ≡ abstract_eq (stores_of code.now n text.now m) (value_of v) (value_of u) }
+pub fn abstract_eq(texts: &Texts, v: Value, u: Value) -> bool
+    ensures { result ≡ abstract_eq texts.now (value_of v) (value_of u) }
 {
-    if strict_eq(code, n, text, m, v, u) {
-        return true;
-    }
-    loose_eq(code, n, text, m, v, u)
+    strict_eq(texts, v, u) || loose_eq(texts, v, u)
 }
 
 pub fn digits_key(s: &[u8]) -> Option<u64>

@@ -19,7 +19,7 @@ use Rattle.value.specs.declared.Value.{Value}
 use Rattle.value.specs.declared.Space.TheVariants.{Functions, Objects}
 use Rattle.heap.specs.Layout.{function_limit, object_limit, objects_at, properties_at, globals_at, heap_words}
 use Rattle.heap.specs.declared.Sizes.{Sizes}
-use Rattle.heap.specs.declared.ObjectType.TheVariants.{Ordinary, Array, NoObject}
+use Rattle.heap.specs.declared.ObjectType.TheVariants.{Ordinary, Array}
 use Rattle.heap.specs.View
 use Rattle.heap.specs.View.{Sized, functions_of, objects_of, properties_of, globals_of, on_heap, Row}
 use Rattle.heap.specs.Rows.{elem_at, elem_past}
@@ -139,7 +139,7 @@ module _ (z : Sizes) (w : List ℕ) (good : Sized z w) where
       more = one_more n (λ j. View.function_at x (0 + 2 * j)) f (function_new i t h) ∙ ap (λ (fs : List St.Function). fs ++ f ∷ []) (functions_kept w x n (apart_below a 0 (0 + 2 * n) (omega arith)))
 
   pub function_known : (i image template : ℕ) → i < z.functions → image ≡ get_or w (2 * i) 0 → template ≡ get_or w (2 * i + 1) 0
-      → View.function_in (Some (image, template)) ≡ get_elem? (functions_of w z.functions) i
+      → View.function_in (Some (record { image = image; template = template })) ≡ get_elem? (functions_of w z.functions) i
   unfolding View.function_at
   function_known i image template h p q =
       let e : 0 + 2 * i ≡ 2 * i = omega arith in
@@ -155,9 +155,9 @@ module _ (z : Sizes) (w : List ℕ) (good : Sized z w) where
       let e : objects_at + 1 * z.objects ≡ objects_at + z.objects = omega arith in
       rw (e, get_or-set_same w (objects_at + z.objects) k 0 (omega (arith, good.size)))
 
-  -- an object of the kind that a word says
-  pub kind_added : (k : ℕ) (w' : List ℕ) → z.objects < object_limit → w' ≡ set w (objects_at + z.objects) k → View.Gives (A.add_kind (View.kind_of k)) z w (with_objects (z.objects + 1) z) w'
-  kind_added k w' h e = rw e (record {
+  -- an object of the kind that its word says
+  pub kind_added : (kind : St.Kind) (k : ℕ) (w' : List ℕ) → View.kind_of k ≡ kind → z.objects < object_limit → w' ≡ set w (objects_at + z.objects) k → View.Gives (A.add_kind kind) z w (with_objects (z.objects + 1) z) w'
+  kind_added kind k w' q h e = rw (← q, e) (record {
     state = λ s. in_objects z w x good s (n + 1) (apart_wider objects_at properties_at a (omega arith) (omega arith)) ∙ ap (λ (os : List St.Kind). Fi.set_objects os (on_heap z w s)) more;
     ready = record { functions = good.functions; objects = omega arith; properties = good.properties; globals = good.globals; size = simp length-set good.size };
   })
@@ -192,17 +192,17 @@ module _ (z : Sizes) (w : List ℕ) (good : Sized z w) where
       let e : objects_at + 1 * i ≡ objects_at + i = omega arith in
       sym (elem_at z.objects i (λ j. View.kind_at w (objects_at + 1 * j)) h ∙ rw (e, q))
 
-  pub kind_ordinary : (i : ℕ) → i < z.objects → get_or w (objects_at + i) 0 ≡ 0 → View.kind_in Ordinary ≡ get_elem? (objects_of w z.objects) i
+  pub kind_ordinary : (i : ℕ) → i < z.objects → get_or w (objects_at + i) 0 ≡ 0 → View.kind_in (Some Ordinary) ≡ get_elem? (objects_of w z.objects) i
   kind_ordinary i h e = kind_at_lem i St.ordinary h (rw e)
 
-  pub kind_array : (i : ℕ) → i < z.objects → (get_or w (objects_at + i) 0 ≡ 0 → ⊥) → View.kind_in Array ≡ get_elem? (objects_of w z.objects) i
+  pub kind_array : (i : ℕ) → i < z.objects → (get_or w (objects_at + i) 0 ≡ 0 → ⊥) → View.kind_in (Some Array) ≡ get_elem? (objects_of w z.objects) i
   kind_array i h e = kind_at_lem i St.array h (not_zero (get_or w (objects_at + i) 0) e)
     where
       not_zero : (x : ℕ) → (x ≡ 0 → ⊥) → View.kind_of x ≡ St.array
       not_zero zero h = absurd (h refl)
       not_zero (suc x) h = refl
 
-  pub kind_none : (i : ℕ) → z.objects ≤ i → View.kind_in NoObject ≡ get_elem? (objects_of w z.objects) i
+  pub kind_none : (i : ℕ) → z.objects ≤ i → View.kind_in None ≡ get_elem? (objects_of w z.objects) i
   kind_none i h = sym (elem_past z.objects i (λ j. View.kind_at w (objects_at + 1 * j)) h)
 
 -- The fresh heap has one row, that of `console`.

@@ -1,7 +1,7 @@
 -- Search in rows: the machine's `any`, `first` and `change_first` by the index of the first row that passes a test. Assumes nothing.
-use Prim.Native.Nat.{ℕ, zero, suc, ◌+◌, ◌≤◌, ◌<◌}
-use Rattle.std.proofs.Common.{arith, eq-or-lt_of_le, inl, inr, sym, ap, ◌∙◌}
-use Rattle.std.specs.Prelude.{◌⊎◌, Bool, true, false, ◌||◌, ◌≡◌, Option, Some, None}
+use Prim.Native.Nat.{ℕ, zero, suc, ◌≤◌, ◌<◌}
+use Rattle.std.proofs.Common.{arith, sym, ◌∙◌}
+use Rattle.std.specs.Prelude.{Bool, true, false, ◌||◌, ◌≡◌, Option, Some, None, MatchOption}
 use Rattle.std.proofs.Math.Option.{none, some}
 use Rattle.std.proofs.Math.Path.{refl}
 use Rattle.std.proofs.Math.ListN.{get_elem?}
@@ -20,21 +20,10 @@ Told t n None = Below t n
 pub record Finds (t : ℕ → Bool) (n : ℕ) (r : Option ℕ) : Type 0 where
   pub told : Told t n r
 
-pub below_none : (t : ℕ → Bool) → Below t 0
-below_none t = record { at = λ j h. absurd (omega arith) }
-
-pub below_more : {t : ℕ → Bool} {i : ℕ} → Below t i → (x : Bool) → x ≡ t i → x ≡ false → Below t (i + 1)
-below_more {t} {i} b x e f = record { at = λ j h. at j (eq-or-lt_of_le (le j h)) }
-  where
-    le : (j : ℕ) → j < i + 1 → j ≤ i
-    le j h = omega arith
-
-    at : (j : ℕ) → (j ≡ i) ⊎ (j < i) → t j ≡ false
-    at j (inl q) = ap t q ∙ sym e ∙ f
-    at j (inr l) = b.at j l
-
-pub found_none : {t : ℕ → Bool} {i n : ℕ} → Below t i → n ≤ i → Finds t n None
-found_none b h = record { told = record { at = λ j l. b.at j (omega arith) } }
+-- what `find` says of the numbers below n
+pub finds_first : (t : ℕ → Bool) (n : ℕ) (r : Option ℕ) → MatchOption r ((k : ℕ) → 0 ≤ k → k < n → t k ≡ false) (λ i. (0 ≤ i) × (i < n) × (t i ≡ true) × ((k : ℕ) → 0 ≤ k → k < i → t k ≡ false)) → Finds t n r
+finds_first t n (Some i) h = record { told = (h.1, h.2, record { at = λ j l. h.3 j (omega arith) l }) }
+finds_first t n None h = record { told = record { at = λ j l. h j (omega arith) l } }
 
 pub found_within : {t : ℕ → Bool} {n i : ℕ} {r : Option ℕ} → Finds t n r → r ≡ Some i → i < n
 found_within {t} {n} {i} {r} f e = let x : Told t n (Some i) = rw e at f.told in x.0
@@ -49,6 +38,10 @@ finds_ext {t} {t'} {n} {r} e f = record { told = go r f.told }
 or_true : (x : Bool) → x || true ≡ true
 or_true true = refl
 or_true false = refl
+
+abbrev pub is_found : Option ℕ → Bool
+is_found (Some i) = true
+is_found None = false
 
 -- THE LAW OF SEARCH: what an answer says of a list of rows
 module _ {A : Type 0} (t : A → Bool) (n : ℕ) (f : ℕ → A) (r : Option ℕ) (h : Finds (λ i. t (f i)) n r) where
@@ -69,11 +62,12 @@ module _ {A : Type 0} (t : A → Bool) (n : ℕ) (f : ℕ → A) (r : Option ℕ
   told_none : r ≡ None → Below (λ j. t (f j)) n
   told_none e = rw e at h.told
 
-  pub found_any : (i : ℕ) → r ≡ Some i → St.any t (row_of n f) ≡ true
-  found_any i e = any_at n i f (told_at i e).0 (told_at i e).1
-
-  pub found_no : r ≡ None → St.any t (row_of n f) ≡ false
-  found_no e = any_none n f (told_none e).at
+  pub found_is : St.any t (row_of n f) ≡ is_found r
+  found_is = go r (λ i e. any_at n i f (told_at i e).0 (told_at i e).1) (λ e. any_none n f (told_none e).at)
+    where
+      go : (o : Option ℕ) → ((i : ℕ) → o ≡ Some i → St.any t (row_of n f) ≡ true) → (o ≡ None → St.any t (row_of n f) ≡ false) → St.any t (row_of n f) ≡ is_found o
+      go (Some i) x y = x i refl
+      go None x y = y refl
 
   module _ {B : Type 0} (g : A → B) (d : B) where
     first_at : (n i : ℕ) (f : ℕ → A) → i < n → t (f i) ≡ true → ((j : ℕ) → j < i → t (f j) ≡ false) → St.first t g d (row_of n f) ≡ g (f i)

@@ -15,7 +15,8 @@ use Rattle.value.specs.declared.Value.{Value}
 use Rattle.heap.specs.Layout.{function_limit, object_limit, property_limit, global_limit, objects_at, properties_at, globals_at, heap_words}
 use Rattle.heap.specs.declared.Sizes.{Sizes}
 use Rattle.heap.specs.declared.ObjectType.{ObjectType}
-use Rattle.heap.specs.declared.ObjectType.TheVariants.{Ordinary, Array, NoObject}
+use Rattle.heap.specs.declared.ObjectType.TheVariants.{Ordinary, Array}
+use Rattle.heap.specs.declared.Registered.{Registered}
 use Rattle.value.specs.declared.Space.{Space}
 
 unfoldable pub function_at : List ℕ → ℕ → St.Function
@@ -77,6 +78,16 @@ properties_of w n = table_of property_of properties_at w n
 abbrev pub globals_of : List ℕ → ℕ → List St.Global
 globals_of w n = table_of global_of globals_at w n
 
+-- what stands on a heap
+pub record Held : Type 0 where
+  pub functions : List St.Function
+  pub objects : List St.Kind
+  pub properties : List St.Property
+  pub globals : List St.Global
+
+abbrev pub held_in : Sizes → List ℕ → Held
+held_in z w = record { functions = functions_of w z.functions; objects = objects_of w z.objects; properties = properties_of w z.properties; globals = globals_of w z.globals }
+
 -- a state with these functions, objects, properties and globals
 abbrev pub within : List St.Function → List St.Kind → List St.Property → List St.Global → St.State → St.State
 within f o p g s = record {
@@ -125,14 +136,17 @@ pub record Gives (t : St.State → St.State) (z : Sizes) (w : List ℕ) (r : Siz
   pub ready : Sized r w'
 
 -- what is read, as the machine looks it up
-abbrev pub function_in : Option (ℕ × ℕ) → Maybe St.Function
-function_in (Some (i, t)) = some (record { image = i; template = t })
+abbrev pub function_in : Option Registered → Maybe St.Function
+function_in (Some f) = some (record { image = f.image; template = f.template })
 function_in None = none
 
-abbrev pub kind_in : ObjectType → Maybe St.Kind
-kind_in Ordinary = some St.ordinary
-kind_in Array = some St.array
-kind_in NoObject = none
+abbrev pub kind_is : ObjectType → St.Kind
+kind_is Ordinary = St.ordinary
+kind_is Array = St.array
+
+abbrev pub kind_in : Option ObjectType → Maybe St.Kind
+kind_in (Some k) = some (kind_is k)
+kind_in None = none
 
 -- What clear leaves of these stores.
 abbrev pub fresh_heap : St.State → St.State

@@ -1,4 +1,5 @@
 //! The machine's acts on properties and globals: a key or name that is there gets another value; a new one is kept in the text store.
+//! The text store is lent to be written, so it is among no `Texts` but for the time that a key is looked up.
 #![tactic(auto)]
 
 ghost use Rattle.std.specs.Prelude.{◌≡◌, ◌+◌, ◌*◌, ◌≤◌, ◌<◌, length};
@@ -7,89 +8,63 @@ ghost use Rattle.value.specs.Words.{value_of};
 ghost use Rattle.value.specs.Lists.{bytes_of};
 ghost use Rattle.texts.specs.Keeps.{text_limit};
 ghost use Rattle.texts.specs.Sources.{stores_of, source_bytes};
-ghost use Rattle.heap.specs.Layout.{property_limit, global_limit, heap_words};
+ghost use Rattle.heap.specs.Layout.{property_limit, heap_words};
 ghost use Rattle.heap.specs.View.{Sized};
-ghost use Rattle.heap.specs.Rows.{Finds};
-ghost use Rattle.heap.specs.Finds.{pair_at, name_at};
-ghost use Rattle.objects.specs.View.{Puts, Lays};
+ghost use Rattle.heap.specs.Finds.{pair_at};
+ghost use Rattle.objects.specs.View.{Puts, Lays, Rooms, Seeks, PutsRow, place_of, new_size};
 
 use heap::{GLOBAL_LIMIT, GLOBALS_AT, PROPERTIES_AT, PROPERTY_LIMIT, Sizes};
-use texts::{Source, TEXT_LIMIT};
+use texts::{Source, TEXT_LIMIT, Texts};
 use value::{Space, Value};
 
-// The first property of an owner under a key. The arms are those of `bytes_of`: its answer would tie the three stores to one lifetime, and `text` is lent anew.
-pub fn find_key(
-    heap: &[u64],
-    count: usize,
-    code: &[u8],
-    n: usize,
-    text: &[u8],
-    m: usize,
-    buffer: &[u8],
-    owner: u64,
-    key: Source,
-) -> Option<usize>
-    requires count_le_property_limit { (count ≤ property_limit) × (length heap.now ≡ heap_words) }
-    requires n_in_bounds { (n ≤ length code.now) × (m ≤ length text.now) }
-    ensures { Finds (pair_at (bytes_of text.now m) heap.now owner (source_bytes (stores_of code.now n text.now m) buffer.now key)) count result }
+/// A table of rows: where it begins, how many rows it may have, and the store that is full with them.
+#[derive(Clone, Copy)]
+pub struct Table {
+    pub at: usize,
+    pub limit: usize,
+    pub full: Space,
+}
+
+pub const PROPERTIES: Table = Table {
+    at: PROPERTIES_AT,
+    limit: PROPERTY_LIMIT,
+    full: Space::Properties,
+};
+
+pub const GLOBALS: Table = Table {
+    at: GLOBALS_AT,
+    limit: GLOBAL_LIMIT,
+    full: Space::Globals,
+};
+
+// How many bytes of text a row asks for: those of its key or name, if it is new.
+fn bytes_asked(found: Option<usize>, key: &[u8]) -> usize
+    ensures { result ≡ new_size found (length key.now) }
 {
-    match key {
-        Source::Code(at, size) => {
-            let p = texts::locate(at, size, n);
-            let from = p.from;
-            let to = p.to;
-            heap::find_property(text, m, heap, count, owner, &code[from..to])
-        }
-        Source::Text(at, size) => {
-            let p = texts::locate(at, size, m);
-            let from = p.from;
-            let to = p.to;
-            heap::find_property(text, m, heap, count, owner, &text[from..to])
-        }
-        Source::Buffer(size) => {
-            let p = texts::locate(0, size, buffer.len());
-            let from = p.from;
-            let to = p.to;
-            heap::find_property(text, m, heap, count, owner, &buffer[from..to])
-        }
+    match found {
+        Some(_) => 0,
+        None => key.len(),
     }
 }
 
-// The first global with a name.
-fn find_name(
-    heap: &[u64],
+// Is there room for a row, if it is new, and for some bytes behind the m of text in use?
+pub fn room(
+    table: Table,
     count: usize,
-    code: &[u8],
-    n: usize,
-    text: &[u8],
+    found: Option<usize>,
     m: usize,
-    buffer: &[u8],
-    name: Source,
-) -> Option<usize>
-    requires count_le_global_limit { (count ≤ global_limit) × (length heap.now ≡ heap_words) }
-    requires n_in_bounds { (n ≤ length code.now) × (m ≤ length text.now) }
-    ensures { Finds (name_at (bytes_of text.now m) heap.now (source_bytes (stores_of code.now n text.now m) buffer.now name)) count result }
+    size: usize,
+) -> Result<(), Space>
+    requires { (count ≤ table.limit) × (m ≤ text_limit) }
+    ensures { Rooms table.limit table.full count found m size result }
 {
-    match name {
-        Source::Code(at, size) => {
-            let p = texts::locate(at, size, n);
-            let from = p.from;
-            let to = p.to;
-            heap::find_global(text, m, heap, count, &code[from..to])
-        }
-        Source::Text(at, size) => {
-            let p = texts::locate(at, size, m);
-            let from = p.from;
-            let to = p.to;
-            heap::find_global(text, m, heap, count, &text[from..to])
-        }
-        Source::Buffer(size) => {
-            let p = texts::locate(0, size, buffer.len());
-            let from = p.from;
-            let to = p.to;
-            heap::find_global(text, m, heap, count, &buffer[from..to])
-        }
+    if found.is_none() && table.limit <= count {
+        return Err(table.full);
     }
+    if TEXT_LIMIT - m < size {
+        return Err(Space::Text);
+    }
+    Ok(())
 }
 
 // A row at place k, for which there is room: its key or name is laid behind the text in use. The new count of text is answered.
@@ -110,10 +85,62 @@ pub fn lay_row(
     requires key_bound { m + length (source_bytes (stores_of code.now n text.old m) buffer.now key) ≤ text_limit }
     ensures { Lays heap.old k head (source_bytes (stores_of code.now n text.old m) buffer.now key) v m text.old result heap.new text.new }
 {
-    let size = texts::size_of(n, m, buffer.len(), key);
+    let size = Texts::new(code, n, text, m).bytes_of(buffer, key).len();
     texts::append(code, n, text, m, buffer, key, m);
     heap::write_row(heap, k, head, m as u64, size as u64, v);
     m + size
+}
+
+// Another value for the row that was found, or a row more, for which there is room. The new counts of rows and of text are answered.
+pub fn put_row(
+    table: Table,
+    count: usize,
+    found: Option<usize>,
+    heap: &mut [u64],
+    code: &[u8],
+    n: usize,
+    text: &mut [u8],
+    m: usize,
+    buffer: &[u8],
+    head: u64,
+    key: Source,
+    v: Value,
+) -> (usize, usize)
+    requires rows_in_bounds { (table.at + 6 * table.limit ≤ length heap.old) × (place_of found count < table.limit) }
+    requires n_in_bounds { (n ≤ length code.now) × (m ≤ text_limit) × (length text.old ≡ text_limit) }
+    requires key_bound { m + new_size found (length (source_bytes (stores_of code.now n text.old m) buffer.now key)) ≤ text_limit }
+    ensures { PutsRow table.at count found head (source_bytes (stores_of code.now n text.old m) buffer.now key) v heap.old m text.old result heap.new text.new }
+{
+    let Some(i) = found else {
+        let k = table.at + 6 * count;
+        let e = lay_row(heap, k, code, n, text, m, buffer, head, key, v);
+        return (count + 1, e);
+    };
+    value::write(heap, table.at + 6 * i + 3, v);
+    (count, m)
+}
+
+/// Where a property of an owner stands. If it stands nowhere, 25 and 27 are asked for it.
+pub fn seek_property(
+    heap: &[u64],
+    count: usize,
+    code: &[u8],
+    n: usize,
+    text: &[u8],
+    m: usize,
+    buffer: &[u8],
+    owner: u64,
+    key: Source,
+) -> Result<Option<usize>, Space>
+    requires count_le_property_limit { (count ≤ property_limit) × (length heap.now ≡ heap_words) }
+    requires n_in_bounds { (n ≤ length code.now) × (m ≤ text_limit) × (length text.now ≡ text_limit) }
+    ensures { Seeks (pair_at (bytes_of text.now m) heap.now owner (source_bytes (stores_of code.now n text.now m) buffer.now key)) count m (length (source_bytes (stores_of code.now n text.now m) buffer.now key)) result }
+{
+    let texts = Texts::new(code, n, text, m);
+    let bytes = texts.bytes_of(buffer, key);
+    let found = heap::find_property(texts.text(), heap, count, owner, bytes);
+    room(PROPERTIES, count, found, m, bytes_asked(found, bytes))?;
+    Ok(found)
 }
 
 /// A property of an owner: questions 25 and 27 where its key is new.
@@ -134,21 +161,11 @@ pub fn put_property(
     ensures { Puts (put_property owner (source_bytes (stores_of code.now n text.old m) buffer.now key) (value_of v)) z heap.old m text.old result heap.new text.new }
 {
     let count = z.properties;
-    let Some(i) = find_key(heap, count, code, n, text, m, buffer, owner, key) else {
-        if PROPERTY_LIMIT <= count {
-            return Err(Space::Properties);
-        }
-        if TEXT_LIMIT - m < texts::size_of(n, m, buffer.len(), key) {
-            return Err(Space::Text);
-        }
-        let k = PROPERTIES_AT + 6 * count;
-        let e = lay_row(heap, k, code, n, text, m, buffer, owner, key, v);
-        let mut y = z;
-        y.properties = count + 1;
-        return Ok((y, e));
-    };
-    value::write(heap, PROPERTIES_AT + 6 * i + 3, v);
-    Ok((z, m))
+    let found = seek_property(heap, count, code, n, text, m, buffer, owner, key)?;
+    let (properties, e) = put_row(
+        PROPERTIES, count, found, heap, code, n, text, m, buffer, owner, key, v,
+    );
+    Ok((Sizes { properties, ..z }, e))
 }
 
 /// A global: questions 26 and 27 where its name is new.
@@ -168,21 +185,14 @@ pub fn put_global(
     ensures { Puts (put_global (source_bytes (stores_of code.now n text.old m) buffer.now name) (plain (value_of v))) z heap.old m text.old result heap.new text.new }
 {
     let count = z.globals;
-    let Some(i) = find_name(heap, count, code, n, text, m, buffer, name) else {
-        if GLOBAL_LIMIT <= count {
-            return Err(Space::Globals);
-        }
-        if TEXT_LIMIT - m < texts::size_of(n, m, buffer.len(), name) {
-            return Err(Space::Text);
-        }
-        let k = GLOBALS_AT + 6 * count;
-        let e = lay_row(heap, k, code, n, text, m, buffer, 0, name, v);
-        let mut y = z;
-        y.globals = count + 1;
-        return Ok((y, e));
-    };
-    value::write(heap, GLOBALS_AT + 6 * i + 3, v);
-    Ok((z, m))
+    let texts = Texts::new(code, n, text, m);
+    let bytes = texts.bytes_of(buffer, name);
+    let found = heap::find_global(texts.text(), heap, count, bytes);
+    room(GLOBALS, count, found, m, bytes_asked(found, bytes))?;
+    let (globals, e) = put_row(
+        GLOBALS, count, found, heap, code, n, text, m, buffer, 0, name, v,
+    );
+    Ok((Sizes { globals, ..z }, e))
 }
 
 /// A global whose value is a text given as bytes: they are kept behind the name, if this is new, and 27 asks for both at once.
@@ -203,32 +213,15 @@ pub fn put_global_text(
 {
     let count = z.globals;
     let long = given.len();
-    let Some(i) = find_name(heap, count, code, n, text, m, buffer, name) else {
-        if GLOBAL_LIMIT <= count {
-            return Err(Space::Globals);
-        }
-        let size = texts::size_of(n, m, buffer.len(), name);
-        if TEXT_LIMIT - m < size {
-            return Err(Space::Text);
-        }
-        let at = m + size;
-        if TEXT_LIMIT - at < long {
-            return Err(Space::Text);
-        }
-        let k = GLOBALS_AT + 6 * count;
-        let made = Value::MadeText(at as u64, long as u64);
-        let e = lay_row(heap, k, code, n, text, m, buffer, 0, name, made);
-        texts::copy(text, e, given);
-        let end = e + long;
-        let mut more = z;
-        more.globals = count + 1;
-        return Ok((more, end));
-    };
-    if TEXT_LIMIT - m < long {
-        return Err(Space::Text);
-    }
-    texts::copy(text, m, given);
-    let made = Value::MadeText(m as u64, long as u64);
-    value::write(heap, GLOBALS_AT + 6 * i + 3, made);
-    Ok((z, m + long))
+    let texts = Texts::new(code, n, text, m);
+    let bytes = texts.bytes_of(buffer, name);
+    let found = heap::find_global(texts.text(), heap, count, bytes);
+    let size = bytes_asked(found, bytes);
+    room(GLOBALS, count, found, m, size + long)?;
+    let made = Value::MadeText((m + size) as u64, long as u64);
+    let (globals, e) = put_row(
+        GLOBALS, count, found, heap, code, n, text, m, buffer, 0, name, made,
+    );
+    texts::copy(text, e, given);
+    Ok((Sizes { globals, ..z }, e + long))
 }

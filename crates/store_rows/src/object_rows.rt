@@ -5,49 +5,48 @@ ghost use Rattle.texts.specs.Keeps.{text_limit};
 ghost use Rattle.heap.specs.Layout.{heap_words};
 ghost use Rattle.heap.specs.View.{Sized};
 
-use crate::stack_rows;
-use heap::Sizes;
-use texts::Source;
+use crate::stack_rows::{self, is_number, is_undefined};
+use heap::{Heap, Sizes};
+use texts::{Source, Texts};
 use value::Value;
-
-pub const ROWS: u64 = 4;
 
 const ONE: u64 = 0x1_0000_0000;
 
-fn number(v: Value) -> u64 {
-    match v {
-        Value::Number(n) => n,
-        _ => 0,
-    }
-}
-
-// A property of object 0, as raw bits.
-fn bits(z: Sizes, heap: &[u64], text: &[u8], m: usize, key: &[u8]) -> u64
+// A property of object 0.
+fn property(z: Sizes, heap: &[u64], text: &[u8], m: usize, key: &[u8]) -> Value
     requires sized { Sized z heap.now }
     requires m_in_bounds { m ≤ length text.now }
 {
-    number(heap::property(text, m, heap, z.properties, 0, key))
+    Heap::new(z, heap).property(&Texts::new(b"", 0, text, m), 0, key)
 }
 
-// The length of an empty array, as raw bits, after a store under a key.
-fn length_after(heap: &mut [u64], text: &mut [u8], stacks: &[u64], key: &[u8]) -> u64
+// The length of an empty array after a store under a key.
+fn length_after(heap: &mut [u64], text: &mut [u8], stacks: &[u64], key: &[u8]) -> Option<Value>
     requires { (length heap.old ≡ heap_words) × (length text.old ≡ text_limit) × (length stacks.now ≡ stack_words) }
 {
     let z = heap::clear(heap);
-    let Ok((y, m)) = arrays::add_array(z, heap, text, 0, stacks, 0, 0, 0) else {
-        return 0;
-    };
+    let (y, m) = arrays::add_array(z, heap, text, 0, stacks, 0, 0, 0).ok()?;
     let size = Source::Buffer(key.len() as u64);
     let array = Value::Object(0);
-    let Ok((x, e)) = arrays::set_property(y, heap, b"", 0, text, m, key, array, size, Value::Null)
-    else {
-        return 0;
-    };
-    bits(x, heap, text, e, b"length")
+    let (x, e) =
+        arrays::set_property(y, heap, b"", 0, text, m, key, array, size, Value::Null).ok()?;
+    Some(property(x, heap, text, e, b"length"))
 }
 
-fn all(a: bool, b: bool, c: bool, d: bool) -> bool {
-    a && b && c && d
+// Is it this number?
+fn stretches(
+    heap: &mut [u64],
+    text: &mut [u8],
+    stacks: &[u64],
+    key: &[u8],
+    floor: u64,
+) -> bool
+    requires { (length heap.old ≡ heap_words) × (length text.old ≡ text_limit) × (length stacks.now ≡ stack_words) }
+{
+    match length_after(heap, text, stacks, key) {
+        Some(v) => is_number(v, floor),
+        None => false,
+    }
 }
 
 // CreateArray 3 over one operand, the number 5: that one, and Undefined twice.
@@ -59,11 +58,10 @@ fn three_of_one(heap: &mut [u64], text: &mut [u8], stacks: &mut [u64]) -> bool
     let Ok((y, m)) = arrays::add_array(z, heap, text, 0, stacks, 0, 1, 3) else {
         return false;
     };
-    let first = bits(y, heap, text, m, b"0") == 5;
-    let second = stack_rows::is_undefined(heap::property(text, m, heap, y.properties, 0, b"1"));
-    let third = stack_rows::is_undefined(heap::property(text, m, heap, y.properties, 0, b"2"));
-    let length = bits(y, heap, text, m, b"length") == 3 * ONE;
-    all(first, second, third, length)
+    is_number(property(y, heap, text, m, b"0"), 5)
+        && is_undefined(property(y, heap, text, m, b"1"))
+        && is_undefined(property(y, heap, text, m, b"2"))
+        && is_number(property(y, heap, text, m, b"length"), 3 * ONE)
 }
 
 // CreateObject at 1,024 operands: the push is 16, and the object stays.
@@ -77,13 +75,14 @@ fn object_stays(heap: &mut [u64], stacks: &mut [u64]) -> bool
     stack_rows::push_overflows(stacks, 1024) && y.objects == 1
 }
 
-/// How many rows differ, of ROWS.
-pub fn differing(heap: &mut [u64], text: &mut [u8], stacks: &mut [u64]) -> u64
+/// Keys that stretch an array, an array made of operands, an object whose push fails.
+pub fn rows(heap: &mut [u64], text: &mut [u8], stacks: &mut [u64]) -> [bool; 4]
     requires { (length heap.old ≡ heap_words) × (length text.old ≡ text_limit) × (length stacks.old ≡ stack_words) }
 {
-    let a = stack_rows::counted(length_after(heap, text, stacks, b"+5") == 6 * ONE);
-    let b = stack_rows::counted(length_after(heap, text, stacks, b"4294967296") == ONE);
-    let c = stack_rows::counted(three_of_one(heap, text, stacks));
-    let d = stack_rows::counted(object_stays(heap, stacks));
-    stack_rows::sum(stack_rows::sum(a, b), stack_rows::sum(c, d))
+    [
+        stretches(heap, text, stacks, b"+5", 6 * ONE),
+        stretches(heap, text, stacks, b"4294967296", ONE),
+        three_of_one(heap, text, stacks),
+        object_stays(heap, stacks),
+    ]
 }

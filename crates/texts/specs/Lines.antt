@@ -9,9 +9,8 @@ use Rattle.machine.specs.Convert.{to_js_string}
 use Rattle.machine.specs.Instruction.{joined}
 use Rattle.value.specs.Words.{value_at}
 use Rattle.value.specs.Lists.{row_of, row_none, row_length, row_append, one_more}
-use Rattle.texts.specs.Sources.{stores_of}
-use Rattle.texts.specs.Overwrite.{overwrite, overwrite_none, overwrite_length, overwrite_more, overwrite_one}
-use Rattle.texts.specs.Spells.{Sizes}
+use Rattle.number.specs.Layout.{Wrote, wrote_none, wrote_more, wrote_after}
+use Rattle.texts.specs.Overwrite.{overwrite, overwrite_length, overwrite_more, overwrite_one}
 use Rattle.texts.specs.Keeps.{output_limit, Prints, appends_full, appends_went, went_as}
 
 -- the values of `count` rows of three words, from row `from` on
@@ -80,67 +79,42 @@ module _ (m : St.Bytes) (w : List ℕ) (from : ℕ) where
       omega (arith, whole_length i, whole_length count, t, b)
 
 -- The measure. The blanks are counted first, then the texts one by one.
-pub record Summed (n m : ℕ) (w : List ℕ) (from count i size : ℕ) : Type 0 where
-  pub sum : (c t : List ℕ) → n ≤ length c → m ≤ length t → size ≡ count - 1 + total (stores_of c n t m) (values_at w from i)
+abbrev pub LineTold : St.Bytes → List ℕ → ℕ → ℕ → ℕ → Option ℕ → Type 0
+LineTold m w from count room (Some k) = (k ≤ room) × (k ≡ length (joined m (values_at w from count)))
+LineTold m w from count room None = room < length (joined m (values_at w from count))
 
-abbrev pub LineTold : ℕ → ℕ → List ℕ → ℕ → ℕ → ℕ → Option ℕ → Type 0
-LineTold n m w from count room (Some k) = (k ≤ room) × ((c t : List ℕ) → n ≤ length c → m ≤ length t → k ≡ length (joined (stores_of c n t m) (values_at w from count)))
-LineTold n m w from count room None = (c t : List ℕ) → n ≤ length c → m ≤ length t → room < length (joined (stores_of c n t m) (values_at w from count))
+pub record MeasuresLine (m : St.Bytes) (w : List ℕ) (from count room : ℕ) (r : Option ℕ) : Type 0 where
+  pub told : LineTold m w from count room r
 
-pub record MeasuresLine (n m : ℕ) (w : List ℕ) (from count room : ℕ) (r : Option ℕ) : Type 0 where
-  pub told : LineTold n m w from count room r
+module _ (m : St.Bytes) (w : List ℕ) (from count : ℕ) where
+  pub sum_none : (size : ℕ) → size ≡ count - 1 → size ≡ count - 1 + total m (values_at w from 0)
+  sum_none size q = let e = ap (total m) (row_none (λ i. value_at w (3 * (from + i)))) in omega arith
 
-module _ (n m : ℕ) (w : List ℕ) (from count : ℕ) where
-  pub summed_none : (size : ℕ) → size ≡ count - 1 → Summed n m w from count 0 size
-  summed_none size q = record {
-    sum = λ c t a b.
-        let e : total (stores_of c n t m) (values_at w from 0) ≡ 0 = ap (total (stores_of c n t m)) (row_none (λ i. value_at w (3 * (from + i)))) in
-        omega arith;
-  }
+  module _ (i size k : ℕ) (v : M.Value) (e : v ≡ value_at w (3 * (from + i))) (q : k ≡ length (to_js_string m v)) (s : size ≡ count - 1 + total m (values_at w from i)) where
+    pub sum_more : size + k ≡ count - 1 + total m (values_at w from (i + 1))
+    sum_more = let x = ap (λ (u : M.Value). length (to_js_string m u)) e in omega (arith, x, total_row m w from i)
 
-  module _ (i size k : ℕ) (v : M.Value) (e : v ≡ value_at w (3 * (from + i))) (q : Sizes n m v k) (s : Summed n m w from count i size) where
-    next_sum : (c t : List ℕ) → n ≤ length c → m ≤ length t → size + k ≡ count - 1 + total (stores_of c n t m) (values_at w from (i + 1))
-    next_sum c t a b =
-        let x : k ≡ length (to_js_string (stores_of c n t m) (value_at w (3 * (from + i)))) = q.size c t a b ∙ ap (λ (u : M.Value). length (to_js_string (stores_of c n t m) u)) e in
-        omega (arith, x, s.sum c t a b, total_row (stores_of c n t m) w from i)
-
-    pub summed_more : Summed n m w from count (i + 1) (size + k)
-    summed_more = record { sum = next_sum }
-
-    pub line_long : (room : ℕ) → i < count → size ≤ room → room - size < k → MeasuresLine n m w from count room None
+    pub line_long : (room : ℕ) → i < count → size ≤ room → room - size < k → MeasuresLine m w from count room None
     line_long room h l g = record {
-      told = λ c t a b.
+      told =
           let d : i + 1 + (count - (i + 1)) ≡ count = omega arith in
-          let z : total (stores_of c n t m) (values_at w from (i + 1 + (count - (i + 1)))) ≡ total (stores_of c n t m) (values_at w from count) = ap (λ (x : ℕ). total (stores_of c n t m) (values_at w from x)) d in
-          omega (arith, next_sum c t a b, z, total_below (stores_of c n t m) w from (i + 1) (count - (i + 1)), whole_length (stores_of c n t m) w from count);
+          let z = ap (λ (x : ℕ). total m (values_at w from x)) d in
+          omega (arith, sum_more, z, total_below m w from (i + 1) (count - (i + 1)), whole_length m w from count);
     }
 
-  pub line_blanks : (size room : ℕ) → size ≡ count - 1 → room < size → MeasuresLine n m w from count room None
-  line_blanks size room e g = record { told = λ c t a b. omega (arith, whole_length (stores_of c n t m) w from count) }
+  pub line_blanks : (size room : ℕ) → size ≡ count - 1 → room < size → MeasuresLine m w from count room None
+  line_blanks size room e g = record { told = omega (arith, whole_length m w from count) }
 
-  pub line_whole : (i size room : ℕ) → i ≡ count → size ≤ room → Summed n m w from count i size → MeasuresLine n m w from count room (Some size)
-  line_whole i size room e l s = record {
-    told = (
-      l,
-      λ c t a b.
-          let z : total (stores_of c n t m) (values_at w from i) ≡ total (stores_of c n t m) (values_at w from count) = ap (λ (x : ℕ). total (stores_of c n t m) (values_at w from x)) e in
-          omega (arith, s.sum c t a b, z, whole_length (stores_of c n t m) w from count),
-    );
-  }
+  pub line_whole : (i size room : ℕ) → i ≡ count → size ≤ room → size ≡ count - 1 + total m (values_at w from i) → MeasuresLine m w from count room (Some size)
+  line_whole i size room e l s = record { told = (l, let z = ap (λ (x : ℕ). total m (values_at w from x)) e in omega (arith, z, whole_length m w from count)) }
 
 -- The writing
 module _ (m : St.Bytes) (w : List ℕ) (from : ℕ) (d₀ : List ℕ) (start : ℕ) where
-  pub line_start : d₀ ≡ overwrite d₀ start (joined m (values_at w from 0))
-  line_start = sym (ap (overwrite d₀ start) (line_none m w from) ∙ overwrite_none d₀ start)
-
-  pub line_first : start ≡ start + length (joined m (values_at w from 0))
-  line_first = let e = ap length (line_none m w from) in omega arith
-
-  pub line_end : (d : List ℕ) (i count : ℕ) → i ≡ count → d ≡ overwrite d₀ start (joined m (values_at w from i)) → d ≡ overwrite d₀ start (joined m (values_at w from count))
-  line_end d i count e q = q ∙ ap (λ (k : ℕ). overwrite d₀ start (joined m (values_at w from k))) e
+  pub line_start : Wrote (joined m (values_at w from 0)) d₀ start d₀ start
+  line_start = rw (line_none m w from) (wrote_none d₀ start)
 
   module _ (count i p : ℕ) (d : List ℕ) (v : M.Value) (fits : start + length (joined m (values_at w from count)) ≤ length d₀) (h : i < count)
-      (ev : v ≡ value_at w (3 * (from + i))) (e : d ≡ overwrite d₀ start (joined m (values_at w from i))) (q : p ≡ start + length (joined m (values_at w from i))) where
+      (ev : v ≡ value_at w (3 * (from + i))) (q : Wrote (joined m (values_at w from i)) d₀ start d p) where
     abbrev so_far : List ℕ
     so_far = joined m (values_at w from i)
 
@@ -154,17 +128,11 @@ module _ (m : St.Bytes) (w : List ℕ) (from : ℕ) (d₀ : List ℕ) (start : �
     line_fits =
         let a = line_below m w from (i + 1) count (omega arith) in
         let b = sym (length-append so_far item) ∙ ap length grown in
-        let l = ap length e ∙ overwrite_length d₀ start so_far (omega arith) in
-        omega arith
+        let l = ap length q.bytes ∙ overwrite_length d₀ start so_far (omega arith) in
+        omega (arith, q.place)
 
-    pub line_step : (d' : List ℕ) → d' ≡ overwrite d p item → d' ≡ overwrite d₀ start (joined m (values_at w from (i + 1)))
-    line_step d' g =
-        let a = line_below m w from i count (omega arith) in
-        g ∙ ap (λ (y : List ℕ). overwrite y p item) e ∙ ap (λ (k : ℕ). overwrite (overwrite d₀ start so_far) k item) q
-        ∙ overwrite_more d₀ start so_far (omega arith) item ∙ ap (overwrite d₀ start) grown
-
-    pub line_place : (p' : ℕ) → p' ≡ p + length item → p' ≡ start + length (joined m (values_at w from (i + 1)))
-    line_place p' g = let b = sym (length-append so_far item) ∙ ap length grown in omega arith
+    pub line_step : (d' : List ℕ) (p' : ℕ) → Wrote item d p d' p' → Wrote (joined m (values_at w from (i + 1))) d₀ start d' p'
+    line_step d' p' g = rw grown at (wrote_more d₀ start so_far item d d' p p' (omega arith) q g)
 
 -- the first value, and one with a blank before it
 module _ (i : ℕ) (t : List ℕ) where
@@ -179,17 +147,8 @@ module _ (i : ℕ) (t : List ℕ) where
       go (suc k) g = refl
 
   module _ (h : i ≡ 0 → ⊥) (d : List ℕ) (at : ℕ) (l : at + length (gap i ++ t) ≤ length d) where
-    pub later_room : (at < length d) × (at + 1 + length t ≤ length (set d at 32))
-    later_room = let e = ap length (later_item h) in let k = length-set d at 32 in (omega arith, omega arith)
-
-    pub later_wrote : (d' : List ℕ) → d' ≡ overwrite (set d at 32) (at + 1) t → d' ≡ overwrite d at (gap i ++ t)
-    later_wrote d' q =
-        let r = later_room in
-        q ∙ ap (λ (y : List ℕ). overwrite y (at + 1) t) (overwrite_one d at 32 r.0) ∙ overwrite_more d at (32 ∷ []) (omega arith) t
-        ∙ ap (overwrite d at) (sym (later_item h))
-
-    pub later_place : (r : ℕ) → r ≡ at + 1 + length t → r ≡ at + length (gap i ++ t)
-    later_place r q = let e = ap length (later_item h) in omega arith
+    pub later_wrote : (d' : List ℕ) (r : ℕ) → Wrote t (set d at 32) (at + 1) d' r → Wrote (gap i ++ t) d at d' r
+    later_wrote d' r q = let e = ap length (later_item h) in rw (later_item h) (wrote_after d at 32 t d' r (omega arith) q)
 
 -- the two bytes of the length, and the line
 module _ (o size : ℕ) (d bs : List ℕ) (l : length d ≡ output_limit) (h : o ≤ output_limit) (e : size ≡ length bs) where
@@ -211,9 +170,9 @@ module _ (o size : ℕ) (d bs : List ℕ) (l : length d ≡ output_limit) (h : o
       went_as s (appends_went output_limit o d (A.line bs) (2 + size) (omega arith) h d' (omega arith) z)
 
 -- the measure taken apart
-module _ {n m : ℕ} {w : List ℕ} {from count room : ℕ} {r : Option ℕ} (q : MeasuresLine n m w from count room r) where
-  pub measured : {k : ℕ} → r ≡ Some k → LineTold n m w from count room (Some k)
+module _ {m : St.Bytes} {w : List ℕ} {from count room : ℕ} {r : Option ℕ} (q : MeasuresLine m w from count room r) where
+  pub measured : {k : ℕ} → r ≡ Some k → LineTold m w from count room (Some k)
   measured e = rw e at q.told
 
-  pub too_many : r ≡ None → LineTold n m w from count room None
+  pub too_many : r ≡ None → LineTold m w from count room None
   too_many e = rw e at q.told

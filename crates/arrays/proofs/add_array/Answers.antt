@@ -20,4 +20,4 @@ pub lay_row-end-requires-clause-key_bound : goal.lay_row-end-requires-clause-key
 lay_row-end-requires-clause-key_bound c = omega (arith, (laid_room c.args.z.objects (given c.args.argc (λ j. value_at c.args.stacks.now (3 * (c.args.from + j)))) c.args.count c.add_kind-y.result _ c.args.m c.args.text.now c.lay_elements-e.result _ _ c.lay_elements-e.ensures), c.if-m-keys_size.false, c.keys_size.ensures, c.requires.m_le_text_limit.0)
 
 pub returns : goal.returns
-returns c = array_made c.args.z c.args.heap.now c.args.m c.args.text.now c.requires.sized c.requires.m_le_text_limit.0 c.requires.m_le_text_limit.1 c.args.argc (λ j. value_at c.args.stacks.now (3 * (c.args.from + j))) c.args.count c.add_kind-y.result _ c.lay_elements-e.result _ _ c.js_int-length.result.bits c.lay_row-end.result _ _ c.if-z-ge-OBJECT_LIMIT.false (omega (arith, c.if-z-count.false, c.requires.sized.properties)) (omega (arith, c.if-m-keys_size.false, c.keys_size.ensures, c.requires.m_le_text_limit.0)) c.add_kind-y.ensures c.lay_elements-e.ensures c.js_int-length.ensures c.lay_row-end.ensures
+returns c = array_made c.args.z c.args.heap.now c.args.m c.args.text.now c.requires.sized c.requires.m_le_text_limit.0 c.requires.m_le_text_limit.1 c.args.argc (λ j. value_at c.args.stacks.now (3 * (c.args.from + j))) c.args.count c.add_kind-y.result _ c.lay_elements-e.result _ _ _ c.lay_row-end.result _ _ c.if-z-ge-OBJECT_LIMIT.false (omega (arith, c.if-z-count.false, c.requires.sized.properties)) (omega (arith, c.if-m-keys_size.false, c.keys_size.ensures, c.requires.m_le_text_limit.0)) c.add_kind-y.ensures c.lay_elements-e.ensures c.whole-v.ensures c.lay_row-end.ensures

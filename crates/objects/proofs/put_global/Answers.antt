@@ -1,17 +1,20 @@
-use native.Mathlib.Omega.{arith}
-use mathlib.Core.Path.{refl}
+use Rattle.std.proofs.Common.{◌≡◌, ℕ, List, length, Err, ap, ◌∙◌, rules}
+use Rattle.machine.specs.State.{Bytes}
 use Rattle.texts.specs.Sources.{source_bytes, stores_of}
-use Rattle.objects.specs.Globals.{value_there, value_full, value_long, value_new}
+use Rattle.objects.specs.View.{new_size}
+use Rattle.objects.specs.Puts.{names_as, rooms_as}
+use Rattle.objects.specs.Globals.{value_refused, value_put}
 use Rattle.objects.proofs.put_global.Goals as goal
 
-pub returns-then-count-ge-GLOBAL_LIMIT : goal.returns-then-count-ge-GLOBAL_LIMIT
-returns-then-count-ge-GLOBAL_LIMIT c = value_full c.args.z c.args.heap.now c.args.m c.args.text.now c.requires.sized c.requires.n_in_bounds.1 c.requires.n_in_bounds.2 (source_bytes (stores_of c.args.code.now c.args.n c.args.text.now c.args.m) c.args.buffer.now c.args.name) c.find_name.result c.find_name.ensures c.args.v c.in_default.is c.if-count-ge-GLOBAL_LIMIT.true
-
-pub returns-then-m-size_of : goal.returns-then-m-size_of
-returns-then-m-size_of c = value_long c.args.z c.args.heap.now c.args.m c.args.text.now c.requires.sized c.requires.n_in_bounds.1 c.requires.n_in_bounds.2 (source_bytes (stores_of c.args.code.now c.args.n c.args.text.now c.args.m) c.args.buffer.now c.args.name) c.find_name.result c.find_name.ensures c.args.v c.in_default.is c.if-count-ge-GLOBAL_LIMIT.false (omega (arith, c.if-m-size_of.true, c.requires.n_in_bounds.1, c.size_of.ensures.size c.args.code.now c.args.text.now c.args.buffer.now c.requires.n_in_bounds.0 (omega (arith, c.requires.n_in_bounds.1, c.requires.n_in_bounds.2)) refl))
-
-pub returns-in_default : goal.returns-in_default
-returns-in_default c = value_new c.args.z c.args.heap.now c.args.m c.args.text.now c.requires.sized c.requires.n_in_bounds.1 c.requires.n_in_bounds.2 (source_bytes (stores_of c.args.code.now c.args.n c.args.text.now c.args.m) c.args.buffer.now c.args.name) c.find_name.result c.find_name.ensures c.args.v c.in_default.is _ _ _ c.if-count-ge-GLOBAL_LIMIT.false (omega (arith, c.if-m-size_of.false, c.requires.n_in_bounds.1, c.size_of.ensures.size c.args.code.now c.args.text.now c.args.buffer.now c.requires.n_in_bounds.0 (omega (arith, c.requires.n_in_bounds.1, c.requires.n_in_bounds.2)) refl)) c.lay_row-e.ensures
+pub returns-in_err-room : goal.returns-in_err-room
+returns-in_err-room c =
+    let key = c.bytes_of-bytes.ensures ∙ ap (λ (b : Bytes). source_bytes b c.args.buffer.now c.args.name) c.new-texts.ensures in
+    let size = c.bytes_asked.ensures ∙ ap (λ (x : List ℕ). new_size c.find_global-found.result (length x)) key in
+    let r : c.from_residual.result ≡ Err c.in_err-room.field-0.0 = search rules in
+    rw r (value_refused c.args.z c.args.heap.now c.args.m c.args.text.now c.requires.sized c.requires.n_in_bounds.1 c.requires.n_in_bounds.2 (source_bytes (stores_of c.args.code.now c.args.n c.args.text.now c.args.m) c.args.buffer.now c.args.name) c.find_global-found.result (names_as c.args.heap.now _ _ (c.text.ensures ∙ ap (λ (b : Bytes). b.text) c.new-texts.ensures) key c.find_global-found.ensures) c.args.v _ (rooms_as (size) c.in_err-room.ensures))
 
 pub returns : goal.returns
-returns c = value_there c.args.z c.args.heap.now c.args.m c.args.text.now c.requires.sized c.requires.n_in_bounds.1 c.requires.n_in_bounds.2 (source_bytes (stores_of c.args.code.now c.args.n c.args.text.now c.args.m) c.args.buffer.now c.args.name) c.find_name.result c.find_name.ensures c.args.v _ _ c.in-Some.is c.write.ensures
+returns c =
+    let key = c.bytes_of-bytes.ensures ∙ ap (λ (b : Bytes). source_bytes b c.args.buffer.now c.args.name) c.new-texts.ensures in
+    let size = c.bytes_asked.ensures ∙ ap (λ (x : List ℕ). new_size c.find_global-found.result (length x)) key in
+    value_put c.args.z c.args.heap.now c.args.m c.args.text.now c.requires.sized c.requires.n_in_bounds.1 c.requires.n_in_bounds.2 (source_bytes (stores_of c.args.code.now c.args.n c.args.text.now c.args.m) c.args.buffer.now c.args.name) c.find_global-found.result (names_as c.args.heap.now _ _ (c.text.ensures ∙ ap (λ (b : Bytes). b.text) c.new-texts.ensures) key c.find_global-found.ensures) c.args.v (rooms_as (size) c.in_ok-room.ensures) _ _ _ c.put_row-globals.ensures

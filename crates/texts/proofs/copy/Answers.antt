@@ -1,10 +1,6 @@
 use native.Mathlib.Omega.{arith}
-use lib.ListN.{length-set}
-use Rattle.texts.specs.Overwrite.{copy_more, copy_all}
+use Rattle.texts.specs.Overwrite.{put_overwrites}
 use Rattle.texts.proofs.copy.Goals as goal
 
-pub loop-i-preserved : goal.loop-i-preserved
-loop-i-preserved c = (omega arith, simp length-set c.loop-i.invariant.1, copy_more c.args.dest.now c.loop-i.dest c.args.bytes.now c.args.at c.loop-i.i (omega arith) (omega arith) c.loop-i.invariant.2)
-
 pub returns : goal.returns
-returns c = copy_all c.args.dest.now c.loop-i.dest c.args.bytes.now c.args.at c.loop-i.i (omega arith) c.loop-i.invariant.2
+returns c = put_overwrites c.args.dest.now c.args.at _ _ c.args.bytes.now c.copy_from_slice.ensures.after (omega arith)

@@ -1,10 +1,7 @@
 use native.Mathlib.Omega.{arith}
-use lib.ListN.{length-set}
-use Rattle.texts.specs.Overwrite.{own_more, own_all}
+use Rattle.std.proofs.Common.{◌∙◌}
+use Rattle.texts.specs.Overwrite.{own_overwrites}
 use Rattle.texts.proofs.copy_own.Goals as goal
 
-pub loop-i-preserved : goal.loop-i-preserved
-loop-i-preserved c = (omega arith, simp length-set c.loop-i.invariant.1, own_more c.args.text.now c.loop-i.text c.args.n c.args.from c.args.to c.loop-i.i (omega arith) (omega arith) (omega arith) (omega arith) c.loop-i.invariant.2)
-
 pub returns : goal.returns
-returns c = own_all c.args.text.now c.loop-i.text c.args.n c.args.from c.args.to c.loop-i.i (omega arith) (omega arith) (omega arith) (omega arith) c.loop-i.invariant.2
+returns c = c.copy_within.ensures.after ∙ own_overwrites c.args.text.now c.args.e c.args.part.start c.args.part.end c.requires.0 (omega (arith, c.requires.0, c.requires.1, c.requires.2))

@@ -1,9 +1,7 @@
-use Prim.Native.Nat.{◌≤◌, ◌-◌}
-use Rattle.texts.specs.Lines.{Summed}
+use Prim.Native.Nat.{◌+◌, ◌≤◌, ◌-◌}
+use mathlib.Core.Path.{◌≡◌}
+use Rattle.texts.specs.Lines.{values_at, total}
 use Rattle.texts.proofs.output.line_size.Given as goal
 
 abbrev pub invariant-loop-i : goal.invariant-loop-i
-invariant-loop-i l = (l.i ≤ l.count) × (l.size ≤ l.room) × Summed l.n l.m l.stacks l.from l.count l.i l.size
-
-abbrev pub decreases-loop-i : goal.decreases-loop-i
-decreases-loop-i l = l.count - l.i
+invariant-loop-i l = (l.size ≤ l.room) × (l.size ≡ l.count - 1 + total l.texts (values_at l.stacks l.from l.i))
