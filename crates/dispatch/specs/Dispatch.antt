@@ -9,7 +9,7 @@ use Rattle.machine.specs.Program.{Program, make, next}
 use Rattle.machine.specs.Instruction as I
 use Rattle.machine.specs.Run as R
 use Rattle.machine.specs.Out.{out, out_pop_frame, out_next}
-use Rattle.value.specs.Lists.{bytes_of, stack_pop, stack_none}
+use Rattle.value.specs.Lists.{stack_pop, stack_none}
 use Rattle.stacks.specs.Layout.{frames_at}
 use Rattle.stacks.specs.View
 use Rattle.stacks.specs.declared.Depths.{Depths}
@@ -18,26 +18,26 @@ use Rattle.outcome.specs.declared.Part.{Part}
 use Rattle.outcome.specs.declared.Part.TheVariants.{Went, Ended, Refused, Register, Join, Print, More}
 use Rattle.outcome.specs.declared.Stepped.{Stepped}
 use Rattle.fetch.specs.declared.Running.{Running}
-use Rattle.fetch.specs.Running.{Runs, Coded, CodedText, Texts, Fetches, fetch_then, current_is, got}
+use Rattle.fetch.specs.Running.{Runs, Coded, CodedText, Holding, Fetches, fetch_then, current_is, got}
 use Rattle.readops.specs.Holds.{Constants}
 
 -- the code, constants and texts that the state s has
-pub record Held (x : Running) (n : ℕ) (code places : List ℕ) (m : ℕ) (t : List ℕ) (s : St.State) : Type 0 where
+pub record Held (x : Running) (n : ℕ) (code places : List ℕ) (b : St.Bytes) (s : St.State) : Type 0 where
   pub constants : Constants x n code places s
-  pub text : s.text ≡ bytes_of t m
+  pub holding : Holding b s
 
-module _ {x : Running} {n : ℕ} {code places : List ℕ} {m : ℕ} {t : List ℕ} where
-  pub to_coded : (s : St.State) → Held x n code places m t s → Coded x n code s
+module _ {x : Running} {n : ℕ} {code places : List ℕ} {b : St.Bytes} where
+  pub to_coded : (s : St.State) → Held x n code places b s → Coded x n code s
   to_coded s h = h.constants.coded
 
-  pub to_constants : (s : St.State) → Held x n code places m t s → Constants x n code places s
+  pub to_constants : (s : St.State) → Held x n code places b s → Constants x n code places s
   to_constants s h = h.constants
 
-  pub to_coded_text : (s : St.State) → Held x n code places m t s → CodedText x n code m t s
-  to_coded_text s h = record { coded = h.constants.coded; text = h.text }
+  pub to_coded_text : (s : St.State) → Held x n code places b s → CodedText x n code b s
+  to_coded_text s h = record { coded = h.constants.coded; holding = h.holding }
 
-  pub to_texts : (s : St.State) → Held x n code places m t s → Texts code n t m s
-  to_texts s h = record { code = h.constants.coded.code; text = h.text }
+  pub to_holding : (s : St.State) → Held x n code places b s → Holding b s
+  to_holding s h = h.holding
 
 -- a byte that is none of these
 abbrev pub NoneOf : ℕ → List ℕ → Type 0

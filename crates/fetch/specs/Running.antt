@@ -55,17 +55,13 @@ pub record Coded (x : Running) (n : ℕ) (c : List ℕ) (s : St.State) : Type 0 
 pub record Pooled (x : Running) (code places : List ℕ) (s : St.State) : Type 0 where
   pub constants : (St.template_of s x.image x.template).constants ≡ constants_of code places x.shape.constants x.shape.constant_count
 
--- The state s has n bytes of code and m of text in use.
-pub record Texts (c : List ℕ) (n : ℕ) (t : List ℕ) (m : ℕ) (s : St.State) : Type 0 where
-  pub code : s.code ≡ bytes_of c n
-  pub text : s.text ≡ bytes_of t m
+-- The state s has these bytes of code and text.
+pub record Holding (b : St.Bytes) (s : St.State) : Type 0 where
+  pub bytes : St.bytes s ≡ b
 
-pub record CodedText (x : Running) (n : ℕ) (c : List ℕ) (m : ℕ) (t : List ℕ) (s : St.State) : Type 0 where
+pub record CodedText (x : Running) (n : ℕ) (c : List ℕ) (b : St.Bytes) (s : St.State) : Type 0 where
   pub coded : Coded x n c s
-  pub text : s.text ≡ bytes_of t m
-
-pub texts_of : {x : Running} {n : ℕ} {c : List ℕ} {m : ℕ} {t : List ℕ} {s : St.State} → CodedText x n c m t s → Texts c n t m s
-texts_of h = record { code = h.coded.code; text = h.text }
+  pub holding : Holding b s
 
 -- Error 14: the operand bytes that were there are read.
 abbrev pub cut_of : Running → Depths → Stepped

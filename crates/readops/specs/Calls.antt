@@ -20,8 +20,8 @@ use Rattle.stacks.specs.declared.Depths.{Depths}
 use Rattle.stacks.specs.View
 use Rattle.stacks.specs.Laws.{with_operands}
 use Rattle.stacks.specs.Popped.{popped_call, popped_call_short}
-use Rattle.heap.specs.View.{function_in, functions_of}
-use Rattle.heap.specs.declared.Sizes.{Sizes}
+use Rattle.heap.specs.View.{Held, function_in}
+use Rattle.heap.specs.declared.Registered.{Registered}
 use Rattle.outcome.specs.declared.Part.TheVariants.{Ended, Print}
 use Rattle.outcome.specs.declared.Stepped.{Stepped}
 use Rattle.outcome.specs.Meets.{Meets, weaken, onward, settles, settled_of, after_look, fails, stepped, underflow_of, left_print}
@@ -32,20 +32,20 @@ use Rattle.readops.specs.declared.call.Callee.{Callee}
 use Rattle.readops.specs.declared.call.Callee.TheVariants.{Function, Object, Other}
 use Rattle.value.specs.declared.Stop.{Stop}
 
-module _ {rows starts : List ℕ} {images : ℕ} {d : Depths} {w : List ℕ} {f : Option (ℕ × ℕ)} {y : Stepped} (args : List M.Value) where
+module _ {rows starts : List ℕ} {images : ℕ} {d : Depths} {w : List ℕ} {f : Option Registered} {y : Stepped} (args : List M.Value) where
   pub unknown : f ≡ None → y ≡ stepped d (Ended (Err InvalidFunctionId)) → (code places : List ℕ) → Meets (Templates code places rows starts images) (calling (function_in f) args) d w y w
   unknown g e code places =
-      subst (λ (u : Option (ℕ × ℕ)). Meets (Templates code places rows starts images) (calling (function_in u) args) d w y w) (sym g)
+      subst (λ (u : Option Registered). Meets (Templates code places rows starts images) (calling (function_in u) args) d w y w) (sym g)
       (after_look (λ s h. refl) (fails e))
 
-module _ {rows starts : List ℕ} {images : ℕ} {d : Depths} {w w' : List ℕ} {f : Option (ℕ × ℕ)} {y : Stepped} (argc : ℕ) where
-  pub known : {i t : ℕ} (p : FunctionTemplate) {r : Result Depths Stop} → f ≡ Some (i, t)
+module _ {rows starts : List ℕ} {images : ℕ} {d : Depths} {w w' : List ℕ} {f : Option Registered} {y : Stepped} (argc : ℕ) where
+  pub known : {i t : ℕ} (p : FunctionTemplate) {r : Result Depths Stop} → f ≡ Some (record { image = i; template = t })
       → ((code places : List ℕ) → template_from code places p ≡ get_or (get_or (images_of code places rows starts images) i []) t St.no_template)
       → View.Makes (A.push_frame i t (View.called w (d.operands + 1) argc p.param_count p.local_count)) d w r w' → y ≡ settled_of r d
       → (code places : List ℕ) → Meets (Templates code places rows starts images) (calling (function_in f) (View.arguments w (d.operands + 1) argc)) d w y w'
   known {i} {t} p {r} g a m e code places =
       let args = View.arguments w (d.operands + 1) argc in
-      subst (λ (u : Option (ℕ × ℕ)). Meets (Templates code places rows starts images) (calling (function_in u) args) d w y w') (sym g)
+      subst (λ (u : Option Registered). Meets (Templates code places rows starts images) (calling (function_in u) args) d w y w') (sym g)
       (after_look
       (λ s h. ap (λ (b : List (List Im.Template)). make (A.push_frame i t (I.locals (get_or (get_or b i []) t St.no_template) args)) next) h.held
       ∙ ap (λ (b : Im.Template). make (A.push_frame i t (I.locals b args)) next) (sym (a code places)))
@@ -70,23 +70,23 @@ callee_other {v} {u} e h = record { is = subst (λ (y : Value). CalleeIs Other (
 abbrev calls : ℕ → Program
 calls n = I.pop_many n [] λ args. I.pop λ f. I.call f args
 
-module _ {x : Running} {n : ℕ} {code places rows starts : List ℕ} {images : ℕ} {z : Sizes} {heap : List ℕ} {d : Depths} {w : List ℕ} {r : Option (ℕ × Depths)} {y : Stepped}
+module _ {x : Running} {n : ℕ} {code places rows starts : List ℕ} {images : ℕ} {o : Held} {d : Depths} {w : List ℕ} {r : Option (ℕ × Depths)} {y : Stepped}
     (f : Fetches x n code d r) (q : Runs x d w) where
-  pub call_cut : r ≡ None → y ≡ cut_of x d → Meets (Callable x n code places rows starts images z heap) I.Call d w y w
+  pub call_cut : r ≡ None → y ≡ cut_of x d → Meets (Callable x n code places rows starts images o) I.Call d w y w
   call_cut g e = fetch_fails f calls (λ s h. h.coded) q g e
 
   module _ {argc : ℕ} {e : Depths} (g : r ≡ Some (argc, e)) where
-    pub call_short : e.operands ≤ argc → y ≡ underflow_of e → Meets (Callable x n code places rows starts images z heap) I.Call d w y w
+    pub call_short : e.operands ≤ argc → y ≡ underflow_of e → Meets (Callable x n code places rows starts images o) I.Call d w y w
     call_short l a =
         after_fetch f calls (λ s h. h.coded) q g
-        (subst (λ (u : Stepped). Meets (Callable x n code places rows starts images z heap) (calls argc) e w u w) (sym a) (record {
+        (subst (λ (u : Stepped). Meets (Callable x n code places rows starts images o) (calls argc) e w u w) (sym a) (record {
           goes = λ s h. popped_call_short e w s argc (λ args f. I.call f args) l;
           kept = tt;
         }))
 
     module _ {at : ℕ} {c : Depths} {v : M.Value} (l : argc < e.operands) (a : at ≡ e.operands - argc - 1) (b : c ≡ with_operands at e) (t : v ≡ value_at w (3 * at)) where
-      called : {w' : List ℕ} (u : M.Value) → v ≡ u → Meets (Callable x n code places rows starts images z heap) (I.call u (View.arguments w (c.operands + 1) argc)) c w y w'
-          → Meets (Callable x n code places rows starts images z heap) I.Call d w y w'
+      called : {w' : List ℕ} (u : M.Value) → v ≡ u → Meets (Callable x n code places rows starts images o) (I.call u (View.arguments w (c.operands + 1) argc)) c w y w'
+          → Meets (Callable x n code places rows starts images o) I.Call d w y w'
       called u i m =
           let o : c.operands ≡ at = ap (λ (u : Depths). u.operands) b in
           let from : e.operands - argc ≡ c.operands + 1 = omega (arith, l, a, o) in
@@ -99,15 +99,15 @@ module _ {x : Running} {n : ℕ} {code places rows starts : List ℕ} {images : 
           ∙ ap (λ (k : Depths). out (I.call u (View.arguments w (c.operands + 1) argc)) (View.on_stacks k w s)) s₂) refl m)
 
       -- no function and no object: error 18
-      pub not_callable_lem : {h : Callee} → CalleeOf v h → h ≡ Other → y ≡ stepped c (Ended (Err NotCallable)) → Meets (Callable x n code places rows starts images z heap) I.Call d w y w
+      pub not_callable_lem : {h : Callee} → CalleeOf v h → h ≡ Other → y ≡ stepped c (Ended (Err NotCallable)) → Meets (Callable x n code places rows starts images o) I.Call d w y w
       not_callable_lem h j k =
           let i : CalleeIs Other v = subst (λ (u : Callee). CalleeIs u v) j h.is in
           let args = View.arguments w (c.operands + 1) argc in
-          called v refl (subst (λ (p : Program). Meets (Callable x n code places rows starts images z heap) p c w y w) (sym (i args)) (fails k))
+          called v refl (subst (λ (p : Program). Meets (Callable x n code places rows starts images o) p c w y w) (sym (i args)) (fails k))
 
-      pub calls_function : {w' : List ℕ} {h : Callee} {i : ℕ} (k : Option (ℕ × ℕ)) → CalleeOf v h → h ≡ Function i → function_in k ≡ get_elem? (functions_of heap z.functions) i
+      pub calls_function : {w' : List ℕ} {h : Callee} {i : ℕ} (k : Option Registered) → CalleeOf v h → h ≡ Function i → function_in k ≡ get_elem? o.functions i
           → ((code places : List ℕ) → Meets (Templates code places rows starts images) (calling (function_in k) (View.arguments w (c.operands + 1) argc)) c w y w')
-          → Meets (Callable x n code places rows starts images z heap) I.Call d w y w'
+          → Meets (Callable x n code places rows starts images o) I.Call d w y w'
       calls_function {w'} {h} {i} k q j o m =
           called (M.function i) (subst (λ (u : Callee). CalleeIs u v) j q.is)
           (onward (λ s h. out_look (View.on_stacks c w s) (λ s. I.call_function s (get_elem? s.functions i) (View.arguments w (c.operands + 1) argc))
@@ -117,7 +117,7 @@ module _ {x : Running} {n : ℕ} {code places rows starts : List ℕ} {images : 
           (weaken (λ s h. h.templates) (m code places)))
 
       -- an object, known or not: its arguments are to be printed
-      pub prints_line : {h : Callee} {i : ℕ} → View.Ready e w → CalleeOf v h → h ≡ Object i → y ≡ stepped c (Print argc) → Meets (Callable x n code places rows starts images z heap) I.Call d w y w
+      pub prints_line : {h : Callee} {i : ℕ} → View.Ready e w → CalleeOf v h → h ≡ Object i → y ≡ stepped c (Print argc) → Meets (Callable x n code places rows starts images o) I.Call d w y w
       prints_line {h} {i} ready k j p =
           let room = call_ready ready l a b in
           called (M.object i) (subst (λ (u : Callee). CalleeIs u v) j k.is) (left_print room.0 room.1 p)

@@ -24,7 +24,6 @@ use Rattle.image.specs.View.{constants_of}
 use Rattle.image.specs.Load.{found_of}
 use Rattle.stacks.specs.declared.Depths.{Depths}
 use Rattle.stacks.specs.View
-use Rattle.texts.specs.Sources.{stores_of}
 use Rattle.texts.specs.Spells.{Spells, spells_as}
 use Rattle.texts.specs.declared.Source.{Source}
 use Rattle.texts.specs.declared.Source.TheVariants.{Code}
@@ -32,7 +31,7 @@ use Rattle.outcome.specs.declared.Stepped.{Stepped}
 use Rattle.outcome.specs.declared.Part.TheVariants.{Register, Join}
 use Rattle.outcome.specs.Meets.{Meets, Any, Pairs, pair_then, pair_ready, any, onward, stepped, left_register, left_join, after_look, after_two}
 use Rattle.fetch.specs.declared.Running.{Running}
-use Rattle.fetch.specs.Running.{Runs, Texts, FetchesWord, current_is, image_runs, after_fetch, fetch_fails, got_runs, got_ready, cut_of}
+use Rattle.fetch.specs.Running.{Runs, Holding, FetchesWord, current_is, image_runs, after_fetch, fetch_fails, got_runs, got_ready, cut_of}
 use Rattle.readops.specs.Holds.{Constants}
 
 -- constant i of this template
@@ -95,11 +94,6 @@ pub spells_code : (i at size : ℕ) (b : List ℕ) → length b ≡ longest_text
 spells_code i at size b l = record { bytes = λ m. refl; size = l }
 
 -- Add of two values that are no texts
-pub bytes_are : {c : List ℕ} {n : ℕ} {t : List ℕ} {m : ℕ} {s : St.State} → Texts c n t m s → St.bytes s ≡ stores_of c n t m
-bytes_are {c} {n} {t} {m} {s} h =
-    ap (λ (u : List ℕ). record { code = u; text = s.text }) h.code
-    ∙ ap (λ (u : List ℕ). record { code = (stores_of c n t m).code; text = u }) h.text
-
 abbrev pub add_of : St.Bytes → M.Value → M.Value → Program
 add_of m a b =
     if is_text a || is_text b
@@ -112,31 +106,31 @@ added m a b z =
     then I.keeping (to_js_string m a ++ to_js_string m b) (λ t. I.pushed (M.text t))
     else I.pushed (M.number (N.add (to_number m a) (to_number m b)))
 
-module _ {c : List ℕ} {n : ℕ} {t : List ℕ} {m : ℕ} {d e : Depths} {w w' : List ℕ} {r : Option (Value × Value × Depths)} {a b : Value} {v : ℕ} {y : Stepped} where
+module _ {m : St.Bytes} {d e : Depths} {w w' : List ℕ} {r : Option (Value × Value × Depths)} {a b : Value} {v : ℕ} {y : Stepped} where
   pub add_numbers : Pairs d w r → r ≡ Some (a, b, e) → is_text (value_of a) ≡ false → is_text (value_of b) ≡ false
-      → v ≡ N.add (to_number (stores_of c n t m) (value_of a)) (to_number (stores_of c n t m) (value_of b))
-      → Meets Any (I.pushed (value_of (Number v))) e w y w' → Meets (Texts c n t m) I.Add d w y w'
+      → v ≡ N.add (to_number m (value_of a)) (to_number m (value_of b))
+      → Meets Any (I.pushed (value_of (Number v))) e w y w' → Meets (Holding m) I.Add d w y w'
   add_numbers p g ea eb q k = after_two add_of p g
       (λ s h. ap (λ (z : Bool). added (St.bytes s) (value_of a) (value_of b) (z || is_text (value_of b))) ea
       ∙ ap (added (St.bytes s) (value_of a) (value_of b)) eb
-      ∙ ap (λ (u : St.Bytes). I.pushed (M.number (N.add (to_number u (value_of a)) (to_number u (value_of b))))) (bytes_are h)
+      ∙ ap (λ (u : St.Bytes). I.pushed (M.number (N.add (to_number u (value_of a)) (to_number u (value_of b))))) h.bytes
       ∙ ap (λ (x : ℕ). I.pushed (M.number x)) (sym q))
       (any k)
 
-module _ {c : List ℕ} {n : ℕ} {t : List ℕ} {m : ℕ} {d e : Depths} {w : List ℕ} {r : Option (Value × Value × Depths)} {a b : Value} {y : Stepped} where
+module _ {m : St.Bytes} {d e : Depths} {w : List ℕ} {r : Option (Value × Value × Depths)} {a b : Value} {y : Stepped} where
   -- a text on either side: the texts of both are to be joined
   joined : ((s : St.State) → add_of (St.bytes s) (value_of a) (value_of b) ≡ I.keeping (to_js_string (St.bytes s) (value_of a) ++ to_js_string (St.bytes s) (value_of b)) (λ t. I.pushed (M.text t)))
-      → Pairs d w r → r ≡ Some (a, b, e) → y ≡ stepped e (Join a b) → Meets (Texts c n t m) I.Add d w y w
+      → Pairs d w r → r ≡ Some (a, b, e) → y ≡ stepped e (Join a b) → Meets (Holding m) I.Add d w y w
   joined f p g q = onward
       (λ s h. p.goes s add_of ∙ ap (λ (u : Option (Value × Value × Depths)). pair_then u add_of d w s) g
       ∙ ap (λ (u : Program). out u (View.on_stacks e w s)) (f s)
       ∙ sym (out_look (View.on_stacks e w s) (λ s. I.keeping (to_js_string (St.bytes s) (value_of a) ++ to_js_string (St.bytes s) (value_of b)) (λ t. I.pushed (M.text t)))))
       refl (left_join (pair_ready p g) q)
 
-  pub add_first : Pairs d w r → r ≡ Some (a, b, e) → is_text (value_of a) ≡ true → y ≡ stepped e (Join a b) → Meets (Texts c n t m) I.Add d w y w
+  pub add_first : Pairs d w r → r ≡ Some (a, b, e) → is_text (value_of a) ≡ true → y ≡ stepped e (Join a b) → Meets (Holding m) I.Add d w y w
   add_first p g ea q = joined (λ s. ap (λ (z : Bool). added (St.bytes s) (value_of a) (value_of b) (z || is_text (value_of b))) ea) p g q
 
-  pub add_second : Pairs d w r → r ≡ Some (a, b, e) → is_text (value_of a) ≡ false → is_text (value_of b) ≡ true → y ≡ stepped e (Join a b) → Meets (Texts c n t m) I.Add d w y w
+  pub add_second : Pairs d w r → r ≡ Some (a, b, e) → is_text (value_of a) ≡ false → is_text (value_of b) ≡ true → y ≡ stepped e (Join a b) → Meets (Holding m) I.Add d w y w
   add_second p g ea eb q = joined
       (λ s. ap (λ (z : Bool). added (St.bytes s) (value_of a) (value_of b) (z || is_text (value_of b))) ea
       ∙ ap (added (St.bytes s) (value_of a) (value_of b)) eb)

@@ -7,10 +7,9 @@ use Rattle.machine.specs.Error as E
 use Rattle.machine.specs.Program.{Program, look, end, failed}
 use Rattle.machine.specs.Instruction as I
 use Rattle.image.specs.View.{images_of}
-use Rattle.heap.specs.declared.Sizes.{Sizes}
-use Rattle.heap.specs.View.{functions_of, objects_of, properties_of, globals_of}
+use Rattle.heap.specs.View.{Held}
 use Rattle.fetch.specs.declared.Running.{Running}
-use Rattle.fetch.specs.Running.{Coded, Pooled, Texts}
+use Rattle.fetch.specs.Running.{Coded, Pooled, Holding}
 use Rattle.readops.specs.declared.call.Callee.{Callee}
 use Rattle.readops.specs.declared.call.Callee.TheVariants.{Function, Object, Other}
 
@@ -19,25 +18,25 @@ pub record Constants (x : Running) (n : ℕ) (code places : List ℕ) (s : St.St
   pub coded : Coded x n code s
   pub pooled : Pooled x code places s
 
--- the texts, objects, properties and globals
-pub record Objects (n : ℕ) (code : List ℕ) (m : ℕ) (text : List ℕ) (z : Sizes) (heap : List ℕ) (s : St.State) : Type 0 where
-  pub texts : Texts code n text m s
-  pub objects : s.objects ≡ objects_of heap z.objects
-  pub properties : s.properties ≡ properties_of heap z.properties
-  pub globals : s.globals ≡ globals_of heap z.globals
+-- the texts b, and the objects, properties and globals of h
+pub record Objects (b : St.Bytes) (h : Held) (s : St.State) : Type 0 where
+  pub holding : Holding b s
+  pub objects : s.objects ≡ h.objects
+  pub properties : s.properties ≡ h.properties
+  pub globals : s.globals ≡ h.globals
 
-pub record Named (x : Running) (n : ℕ) (code places : List ℕ) (m : ℕ) (text : List ℕ) (z : Sizes) (heap : List ℕ) (s : St.State) : Type 0 where
+pub record Named (x : Running) (n : ℕ) (code places : List ℕ) (b : St.Bytes) (h : Held) (s : St.State) : Type 0 where
   pub constants : Constants x n code places s
-  pub objects : Objects n code m text z heap s
+  pub objects : Objects b h s
 
 -- the templates of the images
 pub record Templates (code places rows starts : List ℕ) (images : ℕ) (s : St.State) : Type 0 where
   pub held : s.images ≡ images_of code places rows starts images
 
 -- the functions, and the templates that they name
-pub record Callable (x : Running) (n : ℕ) (code places rows starts : List ℕ) (images : ℕ) (z : Sizes) (heap : List ℕ) (s : St.State) : Type 0 where
+pub record Callable (x : Running) (n : ℕ) (code places rows starts : List ℕ) (images : ℕ) (h : Held) (s : St.State) : Type 0 where
   pub coded : Coded x n code s
-  pub functions : s.functions ≡ functions_of heap z.functions
+  pub functions : s.functions ≡ h.functions
   pub templates : Templates code places rows starts images s
 
 -- a function called, or error 19

@@ -3,14 +3,14 @@ ghost use Rattle.std.specs.Prelude.{List, ℕ, ◌+◌, ◌≤◌, ◌<◌, leng
 ghost use Rattle.machine.specs.Instruction.{Call};
 ghost use Rattle.machine.specs.State.{operand_limit};
 ghost use Rattle.value.specs.Words.{value_of};
-ghost use Rattle.heap.specs.View.{Sized, function_in};
+ghost use Rattle.heap.specs.View.{function_in};
 ghost use Rattle.stacks.specs.View.{Ready, arguments};
 ghost use Rattle.outcome.specs.Meets.{Meets};
 ghost use Rattle.fetch.specs.Running.{Runs};
 ghost use Rattle.readops.specs.Holds.{Templates, Callable, CalleeOf, calling};
 
 use fetch::{Running, cut_short, fetch};
-use heap::Sizes;
+use heap::{Heap, Registered};
 use outcome::{Part, Stepped, failed, left_to_do, settle, underflow};
 use stacks::Depths;
 use value::{JsVmError, Value};
@@ -37,7 +37,7 @@ pub fn callee_of(v: Value) -> Callee
 pub fn call_function(
     d: Depths,
     argc: usize,
-    f: Option<(u64, u64)>,
+    f: Option<Registered>,
     rows: &[u16],
     starts: &[u16],
     images: usize,
@@ -47,12 +47,12 @@ pub fn call_function(
     requires argc_bound { d.operands + 1 + argc ≤ operand_limit }
     ensures { (code places : List ℕ) → Meets (Templates code places rows.now starts.now images) (calling (function_in f) (arguments stacks.old (d.operands + 1) argc)) d stacks.old result stacks.new }
 {
-    let Some((i, t)) = f else {
+    let Some(Registered { image, template }) = f else {
         return failed(JsVmError::InvalidFunctionId, d);
     };
-    let p = image::template_at(rows, starts, images, i as usize, t as usize);
+    let p = image::template_at(rows, starts, images, image as usize, template as usize);
     settle(
-        d.call_frame(stacks, i, t, argc, p.param_count, p.local_count),
+        d.call_frame(stacks, image, template, argc, p.param_count, p.local_count),
         d,
     )
 }
@@ -65,15 +65,13 @@ pub fn call(
     rows: &[u16],
     starts: &[u16],
     images: usize,
-    z: Sizes,
-    heap: &[u64],
+    heap: &Heap,
     stacks: &mut [u64],
 ) -> Stepped
     requires ready { Ready d stacks.old }
     requires runs { Runs x d stacks.old }
     requires n_in_bounds { n ≤ length code.now }
-    requires sized { Sized z heap.now }
-    ensures { (places : List ℕ) → Meets (Callable x n code.now places rows.now starts.now images z heap.now) Call d stacks.old result stacks.new }
+    ensures { (places : List ℕ) → Meets (Callable x n code.now places rows.now starts.now images heap.now) Call d stacks.old result stacks.new }
 {
     let Some((argc, e)) = fetch(x, d, code, n) else {
         return cut_short(x, d);
@@ -86,7 +84,7 @@ pub fn call(
         Callee::Other => failed(JsVmError::NotCallable, f),
         Callee::Object(_) => left_to_do(Part::Print(argc), f),
         Callee::Function(i) => {
-            let g = heap::function(z, heap, i);
+            let g = heap.function(i);
             call_function(f, argc, g, rows, starts, images, stacks)
         }
     }

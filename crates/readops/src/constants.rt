@@ -5,12 +5,11 @@ ghost use Rattle.machine.specs.Instruction.{LoadConst, CreateClosure, Add, get_s
 ghost use Rattle.machine.specs.Convert.{is_text};
 ghost use Rattle.value.specs.Words.{value_of};
 ghost use Rattle.machine.specs.NumberText.{longest_text};
-ghost use Rattle.texts.specs.Sources.{InUse};
 ghost use Rattle.texts.specs.Spells.{Spells};
 ghost use Rattle.image.specs.View.{constants_of};
 ghost use Rattle.stacks.specs.View.{Ready};
 ghost use Rattle.outcome.specs.Meets.{Meets};
-ghost use Rattle.fetch.specs.Running.{Runs, Texts};
+ghost use Rattle.fetch.specs.Running.{Runs, Holding};
 ghost use Rattle.readops.specs.Holds.{Constants};
 
 use fetch::{Running, cut_short, fetch_word};
@@ -18,7 +17,7 @@ use number::format::LONGEST_TEXT;
 use outcome::{Part, Stepped, left_to_do, pop_two, push_value, underflow};
 use reader::Constant;
 use stacks::Depths;
-use texts::Source;
+use texts::{Source, Texts};
 use value::Value;
 
 pub fn load_const(
@@ -93,17 +92,9 @@ pub fn is_text(v: Value) -> bool
     matches!(v, Value::CodeText(_, _) | Value::MadeText(_, _))
 }
 
-pub fn add<'a>(
-    d: Depths,
-    code: &'a [u8],
-    n: usize,
-    text: &'a [u8],
-    m: usize,
-    stacks: &mut [u64],
-) -> Stepped
-    requires ready { Ready d stacks.old }
-    requires in_use { InUse code.now n text.now m }
-    ensures { Meets (Texts code.now n text.now m) Add d stacks.old result stacks.new }
+pub fn add(d: Depths, texts: &Texts, stacks: &mut [u64]) -> Stepped
+    requires { Ready d stacks.old }
+    ensures { Meets (Holding texts.now) Add d stacks.old result stacks.new }
 {
     let Some((a, b, e)) = pop_two(d, stacks) else {
         return underflow(d);
@@ -111,7 +102,7 @@ pub fn add<'a>(
     if is_text(a) || is_text(b) {
         return left_to_do(Part::Join(a, b), e);
     }
-    let u = convert::to_number(code, n, text, m, a);
-    let v = convert::to_number(code, n, text, m, b);
+    let u = convert::to_number(texts, a);
+    let v = convert::to_number(texts, b);
     push_value(e, stacks, Value::Number((u + v).bits))
 }

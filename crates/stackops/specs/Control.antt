@@ -20,14 +20,12 @@ use Rattle.stacks.specs.declared.Handler.{Handler}
 use Rattle.stacks.specs.Layout.{handlers_at}
 use Rattle.stacks.specs.Laws.{with_ip}
 use Rattle.stacks.specs.View
-use Rattle.convert.specs.Truth.{Truth}
-use Rattle.texts.specs.Sources.{InUse}
 use Rattle.outcome.specs.Meets.{Meets, stepped, underflow_of, Tells, KeptOf, onward, after_look, after_pop, pop_fails, after_gives, goes_on, jumps, fails, stopped_by}
 use Rattle.outcome.specs.declared.Part.TheVariants.{Went, Ended, Refused}
 use Rattle.outcome.specs.declared.Stepped.{Stepped}
-use Rattle.fetch.specs.Running.{Runs, CodedText, FetchesWord, cut_of, after_fetch, fetch_fails, texts_of}
+use Rattle.fetch.specs.Running.{Runs, CodedText, FetchesWord, cut_of, after_fetch, fetch_fails}
 use Rattle.fetch.specs.declared.Running.{Running}
-use Rattle.stackops.specs.Values.{agrees, stores_of_lem, truth_is}
+use Rattle.stackops.specs.Values.{agrees}
 use Rattle.value.specs.declared.Stop.{Stop}
 use Rattle.value.specs.declared.Stop.TheVariants.{Failed, Refused}
 
@@ -42,28 +40,24 @@ branch f = I.fetch_word λ p. I.pop (on f p)
 abbrev pub JumpIf : Bool → Program
 JumpIf b = branch (agrees b)
 
-sensed : (f : Bool → Bool) (p : ℕ) (v : Value) {x : Running} {n m : ℕ} {code text : List ℕ} {t b : Bool} → Truth n m (value_of v) t → InUse code n text m → f t ≡ b
-    → (s : St.State) → CodedText x n code m text s → I.jump_if (f (to_boolean (St.bytes s) (value_of v))) p ≡ I.jump_if b p
-sensed f p v u z e s h =
-    ap (λ (k : St.Bytes). I.jump_if (f (to_boolean k (value_of v))) p) (stores_of_lem (texts_of h)) ∙ ap (λ (k : Bool). I.jump_if (f k) p) (truth_is u refl z)
-    ∙ ap (λ (k : Bool). I.jump_if k p) e
-
-module _ (f : Bool → Bool) {x : Running} {n m : ℕ} {code text : List ℕ} {d : Depths} {w : List ℕ} {r : Option (ℕ × Depths)} {y : Stepped} (i : FetchesWord x n code d r) (q : Runs x d w) where
-  pub branch_cut : r ≡ None → y ≡ cut_of x d → Meets (CodedText x n code m text) (branch f) d w y w
+module _ (f : Bool → Bool) {x : Running} {n : ℕ} {code : List ℕ} {m : St.Bytes} {d : Depths} {w : List ℕ} {r : Option (ℕ × Depths)} {y : Stepped} (i : FetchesWord x n code d r) (q : Runs x d w) where
+  pub branch_cut : r ≡ None → y ≡ cut_of x d → Meets (CodedText x n code m) (branch f) d w y w
   branch_cut g e = fetch_fails i (λ p. I.pop (on f p)) (λ s h. h.coded) q g e
 
   module _ {p : ℕ} {e : Depths} {o : Option (Value × Depths)} (g : r ≡ Some (p, e)) (l : View.Pops e w o) where
-    pub branch_short : o ≡ None → y ≡ underflow_of e → Meets (CodedText x n code m text) (branch f) d w y w
+    pub branch_short : o ≡ None → y ≡ underflow_of e → Meets (CodedText x n code m) (branch f) d w y w
     branch_short j z = after_fetch i (λ p. I.pop (on f p)) (λ s h. h.coded) q g (pop_fails (on f p) l j z)
 
-    module _ {v : Value} {c : Depths} {t : Bool} (j : o ≡ Some (v, c)) (u : Truth n m (value_of v) t) (z : InUse code n text m) where
-      after : {b : Bool} → f t ≡ b → Meets (CodedText x n code m text) (I.jump_if b p) c w y w → Meets (CodedText x n code m text) (branch f) d w y w
-      after e k = after_fetch i (λ p. I.pop (on f p)) (λ s h. h.coded) q g (after_pop (on f p) l j (after_look (sensed f p v u z e) k))
+    module _ {v : Value} {c : Depths} (j : o ≡ Some (v, c)) where
+      after : {b : Bool} → f (to_boolean m (value_of v)) ≡ b → Meets (CodedText x n code m) (I.jump_if b p) c w y w → Meets (CodedText x n code m) (branch f) d w y w
+      after e k =
+          after_fetch i (λ p. I.pop (on f p)) (λ s h. h.coded) q g
+          (after_pop (on f p) l j (after_look (λ s h. ap (λ (u : St.Bytes). I.jump_if (f (to_boolean u (value_of v))) p) h.holding.bytes ∙ ap (λ (u : Bool). I.jump_if u p) e) k))
 
-      pub branch_goes : {a : Depths} → f t ≡ true → a ≡ with_ip p c → y ≡ stepped a Went → Meets (CodedText x n code m text) (branch f) d w y w
+      pub branch_goes : {a : Depths} → f (to_boolean m (value_of v)) ≡ true → a ≡ with_ip p c → y ≡ stepped a Went → Meets (CodedText x n code m) (branch f) d w y w
       branch_goes e b k = after e (jumps b k)
 
-      pub branch_stays : f t ≡ false → y ≡ stepped c Went → Meets (CodedText x n code m text) (branch f) d w y w
+      pub branch_stays : f (to_boolean m (value_of v)) ≡ false → y ≡ stepped c Went → Meets (CodedText x n code m) (branch f) d w y w
       branch_stays e k = after e (goes_on k)
 
 module _ {H : St.State → Type 0} where

@@ -16,11 +16,9 @@ use Rattle.value.specs.declared.Value.{Value}
 use Rattle.stacks.specs.declared.Depths.{Depths}
 use Rattle.stacks.specs.Laws.{with_operands}
 use Rattle.stacks.specs.View
-use Rattle.texts.specs.Sources.{stores_of}
 use Rattle.outcome.specs.Meets.{Meets, Any, any, underflow_of, onward, Pairs, pair_then, pair_ready}
 use Rattle.outcome.specs.declared.Stepped.{Stepped}
-use Rattle.fetch.specs.Running.{Texts}
-use Rattle.stackops.specs.Values.{stores_of_lem}
+use Rattle.fetch.specs.Running.{Holding}
 
 abbrev pub on_numbers : (ℕ → ℕ → Program) → Program
 on_numbers k = I.pop_two λ m a b. k (to_number m a) (to_number m b)
@@ -48,14 +46,13 @@ module _ {d : Depths} {w : List ℕ} {q : Option (Value × Value × Depths)} (p 
     ready = tt;
   }
 
-  module _ {c t : List ℕ} {n m : ℕ} {a b : Value} {e : Depths} {x y : JsNumber} (g : q ≡ Some (a, b, e))
-      (f : x.bits ≡ to_number (stores_of c n t m) (value_of a)) (i : y.bits ≡ to_number (stores_of c n t m) (value_of b)) where
-    pub numbers_both : PairsNumbers (Texts c n t m) d w (Some (x, y, e))
+  module _ {m : St.Bytes} {a b : Value} {e : Depths} {x y : JsNumber} (g : q ≡ Some (a, b, e)) (f : x.bits ≡ to_number m (value_of a)) (i : y.bits ≡ to_number m (value_of b)) where
+    pub numbers_both : PairsNumbers (Holding m) d w (Some (x, y, e))
     numbers_both = record {
       goes = λ s h k.
           p.goes s (λ m a b. k (to_number m a) (to_number m b)) ∙ ap (λ (z : Option (Value × Value × Depths)). pair_then z (λ m a b. k (to_number m a) (to_number m b)) d w s) g
-          ∙ ap (λ (z : St.Bytes). out (k (to_number z (value_of a)) (to_number z (value_of b))) (View.on_stacks e w s)) (stores_of_lem h)
-          ∙ ap (λ (z : ℕ). out (k z (to_number (stores_of c n t m) (value_of b))) (View.on_stacks e w s)) (sym f)
+          ∙ ap (λ (z : St.Bytes). out (k (to_number z (value_of a)) (to_number z (value_of b))) (View.on_stacks e w s)) h.bytes
+          ∙ ap (λ (z : ℕ). out (k z (to_number m (value_of b))) (View.on_stacks e w s)) (sym f)
           ∙ ap (λ (z : ℕ). out (k x.bits z) (View.on_stacks e w s)) (sym i);
       ready = pair_ready p g;
     }

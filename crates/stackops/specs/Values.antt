@@ -8,42 +8,32 @@ use Rattle.machine.specs.State as St
 use Rattle.machine.specs.Convert.{to_boolean, strict_eq, abstract_eq}
 use Rattle.machine.specs.Program.{Program, look}
 use Rattle.machine.specs.Instruction as I
-use Rattle.value.specs.Lists.{bytes_of}
 use Rattle.value.specs.Words.{value_of}
 use Rattle.value.specs.declared.Value.{Value}
 use Rattle.stacks.specs.declared.Depths.{Depths}
 use Rattle.stacks.specs.View
-use Rattle.texts.specs.Sources.{stores_of, InUse}
-use Rattle.convert.specs.Truth.{Truth}
 use Rattle.outcome.specs.Meets.{Meets, Any, any, underflow_of, Pairs, after_look, after_pop, pop_fails, after_two, two_fail}
 use Rattle.outcome.specs.declared.Stepped.{Stepped}
-use Rattle.fetch.specs.Running.{Texts}
-
-abbrev stores : List ℕ → List ℕ → St.Bytes
-stores c t = record { code = c; text = t }
-
-pub stores_of_lem : {c t : List ℕ} {n m : ℕ} {s : St.State} → Texts c n t m s → St.bytes s ≡ stores_of c n t m
-stores_of_lem {c} {n} {s = s} h = ap (λ (b : List ℕ). stores b s.text) h.code ∙ ap (λ (b : List ℕ). stores (bytes_of c n) b) h.text
+use Rattle.fetch.specs.Running.{Holding}
 
 -- One operand
 module _ (f : St.Bytes → M.Value → M.Value) {d : Depths} {w : List ℕ} {q : Option (Value × Depths)} {x : Stepped} (p : View.Pops d w q) where
   pub unary_fails : {H : St.State → Type 0} → q ≡ None → x ≡ underflow_of d → Meets H (I.unary f) d w x w
   unary_fails g e = pop_fails (λ a. look λ s. I.pushed (f (St.bytes s) a)) p g e
 
-  pub unary : {c t : List ℕ} {n m : ℕ} {v : Value} {e : Depths} {u : M.Value} {w' : List ℕ} → q ≡ Some (v, e) → u ≡ f (stores_of c n t m) (value_of v)
-      → Meets Any (I.pushed u) e w x w' → Meets (Texts c n t m) (I.unary f) d w x w'
+  pub unary : {b : St.Bytes} {v : Value} {e : Depths} {u : M.Value} {w' : List ℕ} → q ≡ Some (v, e) → u ≡ f b (value_of v) → Meets Any (I.pushed u) e w x w' → Meets (Holding b) (I.unary f) d w x w'
   unary {v = v} g i r = after_pop (λ a. look λ s. I.pushed (f (St.bytes s) a)) p g
-      (after_look (λ s h. ap (λ (b : St.Bytes). I.pushed (f b (value_of v))) (stores_of_lem h) ∙ ap I.pushed (sym i)) (any r))
+      (after_look (λ s h. ap (λ (b : St.Bytes). I.pushed (f b (value_of v))) h.bytes ∙ ap I.pushed (sym i)) (any r))
 
 -- Two operands
 module _ (f : St.Bytes → M.Value → M.Value → M.Value) {d : Depths} {w : List ℕ} {q : Option (Value × Value × Depths)} {x : Stepped} (p : Pairs d w q) where
   pub binary_fails : {H : St.State → Type 0} → q ≡ None → x ≡ underflow_of d → Meets H (I.binary f) d w x w
   binary_fails g e = two_fail (λ m a b. I.pushed (f m a b)) p g e
 
-  pub binary : {c t : List ℕ} {n m : ℕ} {a b : Value} {e : Depths} {u : M.Value} {w' : List ℕ} → q ≡ Some (a, b, e) → u ≡ f (stores_of c n t m) (value_of a) (value_of b)
-      → Meets Any (I.pushed u) e w x w' → Meets (Texts c n t m) (I.binary f) d w x w'
+  pub binary : {m : St.Bytes} {a b : Value} {e : Depths} {u : M.Value} {w' : List ℕ} → q ≡ Some (a, b, e) → u ≡ f m (value_of a) (value_of b)
+      → Meets Any (I.pushed u) e w x w' → Meets (Holding m) (I.binary f) d w x w'
   binary {a = a} {b} g i r = after_two (λ m a b. I.pushed (f m a b)) p g
-      (λ s h. ap (λ (y : St.Bytes). I.pushed (f y (value_of a) (value_of b))) (stores_of_lem h) ∙ ap I.pushed (sym i)) (any r)
+      (λ s h. ap (λ (y : St.Bytes). I.pushed (f y (value_of a) (value_of b))) h.bytes ∙ ap I.pushed (sym i)) (any r)
 
 -- Is a truth the one that is wanted?
 abbrev pub agrees : Bool → Bool → Bool
@@ -74,13 +64,9 @@ module _ (f : St.Bytes → M.Value → M.Value → Bool) {d : Depths} {w : List 
   pub equality_fails : {H : St.State → Type 0} → q ≡ None → x ≡ underflow_of d → Meets H (I.binary λ m a b. M.boolean (f m a b)) d w x w
   equality_fails g e = binary_fails (λ m a b. M.boolean (f m a b)) p g e
 
-  pub equality : {c t : List ℕ} {n m : ℕ} {a b : Value} {e : Depths} {u : Bool} {w' : List ℕ} → q ≡ Some (a, b, e) → u ≡ f (stores_of c n t m) (value_of a) (value_of b)
-      → Meets Any (I.pushed (M.boolean u)) e w x w' → Meets (Texts c n t m) (I.binary λ m a b. M.boolean (f m a b)) d w x w'
+  pub equality : {m : St.Bytes} {a b : Value} {e : Depths} {u : Bool} {w' : List ℕ} → q ≡ Some (a, b, e) → u ≡ f m (value_of a) (value_of b)
+      → Meets Any (I.pushed (M.boolean u)) e w x w' → Meets (Holding m) (I.binary λ m a b. M.boolean (f m a b)) d w x w'
   equality g i r = binary (λ m a b. M.boolean (f m a b)) p g (ap M.boolean i) r
-
--- The truth of a value
-pub truth_is : {n m : ℕ} {v : M.Value} {r b : Bool} {c t : List ℕ} → Truth n m v r → r ≡ b → InUse c n t m → to_boolean (stores_of c n t m) v ≡ b
-truth_is {c = c} {t} h g i = sym (h.told c t i.code i.text) ∙ g
 
 pub if_true : {b : Bool} (u v : M.Value) → b ≡ true → u ≡ (if b then u else v)
 if_true u v e = rw e

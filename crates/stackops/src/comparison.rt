@@ -1,70 +1,61 @@
 //! Comparisons, and the two logical instructions, which pop both operands whatever the first one is.
-ghost use Rattle.std.specs.Prelude.{ℕ, List};
 ghost use Rattle.machine.specs.Instruction.{comparison, In};
 ghost use Rattle.stacks.specs.View.{Ready};
-ghost use Rattle.texts.specs.Sources.{InUse};
 ghost use Rattle.outcome.specs.Meets.{Meets, Any};
-ghost use Rattle.fetch.specs.Running.{Texts};
+ghost use Rattle.fetch.specs.Running.{Holding};
 ghost use Rattle.stackops.specs.Values.{Equals, Logical};
 
 use crate::arithmetic::pop_numbers;
 use crate::operators::Comparison;
 use outcome::{Stepped, pop_two, push_value, underflow};
 use stacks::Depths;
+use texts::Texts;
 use value::Value;
 
 /// Eq and NotEq, or StrictEq and StrictNotEq: are the operands equal or not, as `WANTED` has it?
-pub fn equality<'a, const STRICT: bool, const WANTED: bool>(
+pub fn equality<const STRICT: bool, const WANTED: bool>(
     d: Depths,
-    code: &'a [u8],
-    n: usize,
-    text: &'a [u8],
-    m: usize,
+    texts: &Texts,
     stacks: &mut [u64],
 ) -> Stepped
-    requires ready { Ready d stacks.old }
-    requires in_use { InUse code.now n text.now m }
-    ensures { Meets (Texts code.now n text.now m) (Equals STRICT WANTED) d stacks.old result stacks.new }
+    requires { Ready d stacks.old }
+    ensures { Meets (Holding texts.now) (Equals STRICT WANTED) d stacks.old result stacks.new }
 {
     let Some((a, b, e)) = pop_two(d, stacks) else {
         return underflow(d);
     };
     let equal = if STRICT {
-        convert::strict_eq(code, n, text, m, a, b)
+        convert::strict_eq(texts, a, b)
     } else {
-        convert::abstract_eq(code, n, text, m, a, b)
+        convert::abstract_eq(texts, a, b)
     };
     push_value(e, stacks, Value::Boolean(equal == WANTED))
 }
 
 /// Lt, Gt, LtEq and GtEq.
-pub fn compare<'a, O: Comparison>(
+pub fn compare<O: Comparison>(
     d: Depths,
-    code: &'a [u8],
-    n: usize,
-    text: &'a [u8],
-    m: usize,
+    texts: &Texts,
     stacks: &mut [u64],
 ) -> Stepped
-    requires ready { Ready d stacks.old }
-    requires in_use { InUse code.now n text.now m }
-    ensures { Meets (Texts code.now n text.now m) (comparison O.of) d stacks.old result stacks.new }
+    requires { Ready d stacks.old }
+    ensures { Meets (Holding texts.now) (comparison O.of) d stacks.old result stacks.new }
 {
-    let Some((a, b, e)) = pop_numbers(d, code, n, text, m, stacks) else {
+    let Some((a, b, e)) = pop_numbers(d, texts, stacks) else {
         return underflow(d);
     };
     push_value(e, stacks, Value::Boolean(O::apply(a, b)))
 }
 
 /// LogicalAnd and LogicalOr: the newer operand where the truth of the older one is `TRUTH`, else the older one.
-pub fn logical<const TRUTH: bool>(d: Depths, n: usize, m: usize, stacks: &mut [u64]) -> Stepped
+pub fn logical<const TRUTH: bool>(d: Depths, texts: &Texts, stacks: &mut [u64]) -> Stepped
     requires { Ready d stacks.old }
-    ensures { (code text : List ℕ) → InUse code n text m → Meets (Texts code n text m) (Logical TRUTH) d stacks.old result stacks.new }
+    ensures { Meets (Holding texts.now) (Logical TRUTH) d stacks.old result stacks.new }
 {
     let Some((a, b, e)) = pop_two(d, stacks) else {
         return underflow(d);
     };
-    if convert::to_boolean(n, m, a) == TRUTH {
+    if convert::to_boolean(texts, a) == TRUTH {
         return push_value(e, stacks, b);
     }
     push_value(e, stacks, a)

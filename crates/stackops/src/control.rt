@@ -9,6 +9,7 @@ ghost use Rattle.stackops.specs.Control.{JumpIf};
 use fetch::{Running, cut_short, fetch_word};
 use outcome::{Stepped, ended, failed, push_value, settle, stopped, underflow, went};
 use stacks::Depths;
+use texts::Texts;
 use value::{JsVmError, Value};
 
 pub fn jump(x: Running, d: Depths, code: &[u8], n: usize) -> Stepped
@@ -21,19 +22,19 @@ pub fn jump(x: Running, d: Depths, code: &[u8], n: usize) -> Stepped
     went(e.with_ip(p))
 }
 
-/// JumpIfTrue and JumpIfFalse: a jump where the truth of the operand is `TRUTH`. m bytes of text are in use.
+/// JumpIfTrue and JumpIfFalse: a jump where the truth of the operand is `TRUTH`.
 pub fn jump_if<const TRUTH: bool>(
     x: Running,
     d: Depths,
     code: &[u8],
     n: usize,
-    m: usize,
+    texts: &Texts,
     stacks: &[u64],
 ) -> Stepped
     requires ready { Ready d stacks.now }
     requires runs { Runs x d stacks.now }
     requires n_in_bounds { n ≤ length code.now }
-    ensures { (text : List ℕ) → m ≤ length text → Meets (CodedText x n code.now m text) (JumpIf TRUTH) d stacks.now result stacks.now }
+    ensures { Meets (CodedText x n code.now texts.now) (JumpIf TRUTH) d stacks.now result stacks.now }
 {
     let Some((p, e)) = fetch_word(x, d, code, n) else {
         return cut_short(x, d);
@@ -41,7 +42,7 @@ pub fn jump_if<const TRUTH: bool>(
     let Some((v, f)) = e.pop(stacks) else {
         return underflow(e);
     };
-    if convert::to_boolean(n, m, v) == TRUTH {
+    if convert::to_boolean(texts, v) == TRUTH {
         return went(f.with_ip(p));
     }
     went(f)
