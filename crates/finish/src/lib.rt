@@ -12,7 +12,7 @@ ghost use Rattle.heapops.specs.Turns.{Turns, mem, Loaded};
 ghost use Rattle.finish.specs.Parts.{Completes, Finishes, Ground, LeftReady, LeftBy, MoreReady, Looks, changing, tables, steady_of};
 
 use fetch::Running;
-use heapops::{Counts, How, Turned, create, joining, print, stores};
+use heapops::{Counts, Turned, create, joining, print, stores};
 use outcome::{Part, Stepped};
 use readops::{call, constants, lookups};
 use value::JsVmError;
@@ -21,11 +21,14 @@ use value::JsVmError;
 fn steady(c: Counts, t: Turned) -> Turned
     ensures { result ≡ steady_of c t }
 {
-    let how = t.how;
-    let mut e = t.counts;
-    e.code = c.code;
-    e.images = c.images;
-    Turned { counts: e, how }
+    Turned {
+        counts: Counts {
+            code: c.code,
+            images: c.images,
+            ..t.counts
+        },
+        ..t
+    }
 }
 
 pub fn complete(
@@ -44,21 +47,14 @@ pub fn complete(
     requires output_le_output_limit { (c.output ≤ output_limit) × (length output.old ≡ output_limit) }
     ensures { Completes (Loaded c.code code.now) c (mem stacks.old heap.old text.old output.old) r result (mem stacks.new heap.new text.new output.new) }
 {
-    let how = r.how;
-    let d = r.depths;
-    let mut e = c;
-    e.depths = d;
-    match how {
-        Part::Went => heapops::went(e),
-        Part::Ended(q) => Turned {
-            counts: e,
-            how: How::Ended(q),
-        },
+    let e = c.with_depths(r.depths);
+    match r.how {
+        Part::Went | Part::More(_) => heapops::went(e),
+        Part::Ended(q) => heapops::ended(e, q),
         Part::Refused(q) => heapops::refused(e, q),
         Part::Register(i, t) => create::register(e, i, t, stacks, heap),
         Part::Join(a, b) => joining::join(e, a, b, code, stacks, text),
         Part::Print(k) => print::print(e, k, code, stacks, text, output),
-        Part::More(_) => heapops::went(e),
     }
 }
 
@@ -91,10 +87,7 @@ fn look_up<'a>(
         7 => lookups::load_index(d, code, n, text, m, z, heap, stacks),
         50 => call::call(x, d, code, n, rows, starts, c.images, z, heap, stacks),
         52 => constants::create_closure(x, d, code, n, places, stacks),
-        _ => {
-            let b = op as u8;
-            outcome::failed(JsVmError::UnknownOpcode(b), d)
-        }
+        _ => outcome::failed(JsVmError::UnknownOpcode(op as u8), d),
     }
 }
 
@@ -125,7 +118,7 @@ pub fn execute_more(
         8 => stores::store_index(c, code, stacks, heap, text),
         60 => create::create_object(c, stacks, heap),
         61 => create::create_array(x, c, code, stacks, heap, text),
-        71 => joining::type_of(c, code, stacks, text),
+        71 => joining::type_of(c, stacks, text),
         _ => {
             let r = look_up(op, x, c, code, places, rows, starts, heap, text, stacks);
             complete(r, c, code, stacks, heap, text, output)
@@ -154,16 +147,17 @@ pub fn finish(
     requires output_le_output_limit { (c.output ≤ output_limit) × (length output.old ≡ output_limit) }
     ensures { Finishes (Ground x c (tables code.now places.now rows.now starts.now)) x c (mem stacks.old heap.old text.old output.old) r result (mem stacks.new heap.new text.new output.new) }
 {
-    let how = r.how;
-    let Part::More(op) = how else {
-        let t = complete(r, c, code, stacks, heap, text, output);
-        return steady(c, t);
-    };
-    let d = r.depths;
-    let mut e = c;
-    e.depths = d;
-    let t = execute_more(
-        op, x, e, code, places, rows, starts, stacks, heap, text, output,
-    );
-    steady(c, t)
+    match r.how {
+        Part::More(op) => {
+            let e = c.with_depths(r.depths);
+            let t = execute_more(
+                op, x, e, code, places, rows, starts, stacks, heap, text, output,
+            );
+            steady(c, t)
+        }
+        _ => {
+            let t = complete(r, c, code, stacks, heap, text, output);
+            steady(c, t)
+        }
+    }
 }

@@ -54,6 +54,11 @@ kept_as Went c d m m' k = k
 kept_as (Ended e) c d m m' k = k
 kept_as (Refused q) c d m m' k = k
 
+pub kept_from : (h : How) (c : Counts) (d : Depths) (m m' : Mem) → KeptOf h c m m' → KeptOf h (with_depths d c) m m'
+kept_from Went c d m m' k = k
+kept_from (Ended e) c d m m' k = k
+kept_from (Refused q) c d m m' k = k
+
 -- what a refusal leaves of the heap and the text
 abbrev pub Left : Sizes → List ℕ → ℕ → List ℕ → Result (Sizes × ℕ) Space → List ℕ → List ℕ → Type 0
 Left z h m t (Ok (y, e)) h' t' = Unit {0}
@@ -83,6 +88,12 @@ push_made s v = go (ltb (length s.operands) St.operand_limit)
     go : (b : Bool) → Unrefused (out_of (pushing s v b).how (pushing s v b).state)
     go true = tt
     go false = tt
+
+pub push_kept : (e : Counts) (w w' : List ℕ) (v : M.Value) (r : Result Depths Stop) → View.Makes (A.push v) e.depths w r w' → (c : Counts) (m m' : Mem) → KeptOf (settled_in e r).how c m m'
+unfolding Unrefused
+push_kept e w w' v (Ok d) a c m m' = tt
+push_kept e w w' v (Err (Failed b)) a c m m' = tt
+push_kept e w w' v (Err (Refused q)) a c m m' = absurd (subst Unrefused (a.goes St.fresh next) (push_made (View.on_stacks e.depths w St.fresh) v))
 
 -- a look more changes nothing
 two_plain : (k : M.Value → M.Value → Program) (s : St.State) → out (I.pop λ b. I.pop λ a. k a b) s ≡ out (I.pop_two λ m a b. k a b) s

@@ -8,7 +8,7 @@ ghost use Rattle.outcome.specs.Meets.{Any, registers};
 ghost use Rattle.fetch.specs.Running.{Runs, Coded};
 ghost use Rattle.heapops.specs.Turns.{Turns, mem};
 
-use crate::{Counts, Turned, failed, refused, settle_push};
+use crate::{Counts, Turned, failed, push_made};
 use fetch::{Running, fetch, past_end};
 use value::{JsVmError, Value};
 
@@ -24,16 +24,9 @@ pub fn register(
     requires sized { Sized c.sizes heap.old }
     ensures { (t o : List ℕ) → Turns Any (registers image template) c (mem stacks.old heap.old t o) result (mem stacks.new heap.new t o) }
 {
-    let n = c.sizes.functions;
-    match heap::add_function(c.sizes, heap, image, template) {
-        Err(q) => refused(c, q),
-        Ok(y) => {
-            let r = c.depths.push(stacks, Value::Function(n as u64));
-            let mut e = c;
-            e.sizes = y;
-            settle_push(e, r)
-        }
-    }
+    let id = c.sizes.functions as u64;
+    let added = heap::add_function(c.sizes, heap, image, template);
+    push_made(c, c.depths, c.grown(added), stacks, Value::Function(id))
 }
 
 pub fn create_object(c: Counts, stacks: &mut [u64], heap: &mut [u64]) -> Turned
@@ -41,16 +34,9 @@ pub fn create_object(c: Counts, stacks: &mut [u64], heap: &mut [u64]) -> Turned
     requires sized { Sized c.sizes heap.old }
     ensures { (t o : List ℕ) → Turns Any CreateObject c (mem stacks.old heap.old t o) result (mem stacks.new heap.new t o) }
 {
-    let n = c.sizes.objects;
-    match heap::add_object(c.sizes, heap) {
-        Err(q) => refused(c, q),
-        Ok(y) => {
-            let r = c.depths.push(stacks, Value::Object(n as u64));
-            let mut e = c;
-            e.sizes = y;
-            settle_push(e, r)
-        }
-    }
+    let id = c.sizes.objects as u64;
+    let added = heap::add_object(c.sizes, heap);
+    push_made(c, c.depths, c.grown(added), stacks, Value::Object(id))
 }
 
 pub fn create_array(
@@ -71,20 +57,16 @@ pub fn create_array(
     let Some((count, d)) = fetch(x, c.depths, code, c.code) else {
         return failed(c, past_end(x, c.depths), JsVmError::IpOutOfBounds);
     };
-    let id = c.sizes.objects;
+    let id = c.sizes.objects as u64;
     let stand = d.operands;
     let from = stand.saturating_sub(count);
     let given = count.min(stand);
-    match arrays::add_array(c.sizes, heap, text, c.text, stacks, from, given, count) {
-        Err(q) => refused(c, q),
-        Ok((y, m)) => {
-            let f = d.truncate(count);
-            let r = f.push(stacks, Value::Object(id as u64));
-            let mut e = c;
-            e.depths = f;
-            e.sizes = y;
-            e.text = m;
-            settle_push(e, r)
-        }
-    }
+    let added = arrays::add_array(c.sizes, heap, text, c.text, stacks, from, given, count);
+    push_made(
+        c,
+        d.truncate(count),
+        c.placed(added),
+        stacks,
+        Value::Object(id),
+    )
 }

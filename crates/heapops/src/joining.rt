@@ -26,10 +26,14 @@ pub(crate) fn push_text(c: Counts, d: Depths, stacks: &mut [u64], k: Option<usiz
         stacks,
         Value::MadeText(n as u64, m.saturating_sub(n) as u64),
     );
-    let mut e = c;
-    e.depths = d;
-    e.text = m;
-    settle_push(e, r)
+    settle_push(
+        Counts {
+            depths: d,
+            text: m,
+            ..c
+        },
+        r,
+    )
 }
 
 // The rest of Add where an operand is a text.
@@ -50,15 +54,14 @@ pub fn join(
     push_text(c, c.depths, stacks, k)
 }
 
-pub fn type_of(c: Counts, code: &[u8], stacks: &mut [u64], text: &mut [u8]) -> Turned
+pub fn type_of(c: Counts, stacks: &mut [u64], text: &mut [u8]) -> Turned
     requires ready { Ready c.depths stacks.old }
-    requires code_in_bounds { c.code ≤ length code.now }
     requires text_le_text_limit { (c.text ≤ text_limit) × (length text.old ≡ text_limit) }
     ensures { (h o : List ℕ) → Turns Any Typeof c (mem stacks.old h text.old o) result (mem stacks.new h text.new o) }
 {
     let Some((v, d)) = c.depths.pop(stacks) else {
         return failed(c, c.depths.with_operands(0), JsVmError::StackUnderflow);
     };
-    let k = spell::keep_typeof(code, c.code, text, c.text, v);
+    let k = spell::keep_typeof(text, c.text, v);
     push_text(c, d, stacks, k)
 }

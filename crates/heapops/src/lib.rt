@@ -2,7 +2,10 @@
 #![tactic(auto)]
 
 ghost use Rattle.std.specs.Prelude.{◌≡◌};
+ghost use Rattle.value.specs.Words.{value_of};
+ghost use Rattle.stacks.specs.View.{Ready};
 ghost use Rattle.heapops.specs.Turns.{fresh_counts, with_depths, turned, settled_in};
+ghost use Rattle.heapops.specs.Makes.{PushesMade, grown_in, placed_as};
 ghost use Rattle.heapops.specs.declared.How.TheVariants.{Went, Ended, Refused};
 
 use heap::Sizes;
@@ -32,19 +35,38 @@ impl Counts {
         ensures { result ≡ fresh_counts sizes }
     {
         Counts {
-            depths: Depths {
-                operands: 0,
-                slots: 0,
-                frames: 0,
-                handlers: 0,
-                ip: 0,
-            },
+            depths: Depths::default(),
             sizes,
             code: 0,
             images: 0,
             text: 0,
             output: 0,
         }
+    }
+
+    pub fn with_depths(self, depths: Depths) -> Counts
+        ensures { result ≡ with_depths depths self }
+    {
+        Counts { depths, ..self }
+    }
+
+    // Behind an act on the heap, and behind one on the heap and the text
+    pub(crate) fn grown(self, r: Result<Sizes, Space>) -> Result<Counts, Space>
+        ensures { result ≡ grown_in self r }
+    {
+        let sizes = r?;
+        Ok(Counts { sizes, ..self })
+    }
+
+    pub(crate) fn placed(self, r: Result<(Sizes, usize), Space>) -> Result<Counts, Space>
+        ensures { result ≡ placed_as self r }
+    {
+        let (sizes, text) = r?;
+        Ok(Counts {
+            sizes,
+            text,
+            ..self
+        })
     }
 }
 
@@ -61,14 +83,6 @@ pub enum How {
 pub struct Turned {
     pub counts: Counts,
     pub how: How,
-}
-
-pub fn with_depths(c: Counts, d: Depths) -> Counts
-    ensures { result ≡ with_depths d c }
-{
-    let mut e = c;
-    e.depths = d;
-    e
 }
 
 pub fn went(c: Counts) -> Turned
@@ -89,13 +103,19 @@ pub fn refused(c: Counts, q: Space) -> Turned
     }
 }
 
+pub fn ended(c: Counts, r: Result<Value, JsVmError>) -> Turned
+    ensures { result ≡ turned c (Ended r) }
+{
+    Turned {
+        counts: c,
+        how: How::Ended(r),
+    }
+}
+
 pub fn failed(c: Counts, d: Depths, e: JsVmError) -> Turned
     ensures { result ≡ turned (with_depths d c) (Ended (Err e)) }
 {
-    Turned {
-        counts: with_depths(c, d),
-        how: How::Ended(Err(e)),
-    }
+    ended(c.with_depths(d), Err(e))
 }
 
 // The end of an instruction whose last act is a push.
@@ -103,11 +123,26 @@ pub fn settle_push(c: Counts, r: Result<Depths, Stop>) -> Turned
     ensures { result ≡ settled_in c r }
 {
     match r {
-        Ok(d) => went(with_depths(c, d)),
-        Err(Stop::Failed(e)) => Turned {
-            counts: c,
-            how: How::Ended(Err(e)),
-        },
+        Ok(d) => went(c.with_depths(d)),
+        Err(Stop::Failed(e)) => ended(c, Err(e)),
         Err(Stop::Refused(q)) => refused(c, q),
+    }
+}
+
+// The end of an instruction that makes something and pushes v: `made` has the counts behind the making, unless a store refused it, and d is what is left of
+// the stacks.
+pub(crate) fn push_made(
+    c: Counts,
+    d: Depths,
+    made: Result<Counts, Space>,
+    stacks: &mut [u64],
+    v: Value,
+) -> Turned
+    requires { Ready d stacks.old }
+    ensures { PushesMade c d made (value_of v) stacks.old result stacks.new }
+{
+    match made {
+        Ok(e) => settle_push(e.with_depths(d), d.push(stacks, v)),
+        Err(q) => refused(c, q),
     }
 }

@@ -8,6 +8,7 @@ ghost use Rattle.outcome.specs.Meets.{prints};
 ghost use Rattle.heapops.specs.Turns.{Turns, mem, Loaded};
 
 use crate::{Counts, Turned, refused, settle_push};
+use texts::Texts;
 use value::{Space, Value};
 
 pub fn print<'a>(
@@ -26,14 +27,11 @@ pub fn print<'a>(
 {
     let d = c.depths;
     let from = d.operands + 1;
-    let k = texts::output::print(
-        code, c.code, text, c.text, stacks, from, argc, output, c.output,
-    );
-    let Some(o) = k else {
+    let texts = Texts::new(code, c.code, text, c.text);
+    let printed = texts::output::print(&texts, stacks, from, argc, output, c.output);
+    let Some(o) = printed else {
         return refused(c, Space::Output);
     };
     let r = d.push(stacks, Value::Undefined);
-    let mut e = c;
-    e.output = o;
-    settle_push(e, r)
+    settle_push(Counts { output: o, ..c }, r)
 }

@@ -23,14 +23,13 @@ pub(crate) fn settle_placed(c: Counts, d: Depths, r: Result<(Sizes, usize), Spac
     ensures { result ≡ placed_in c d r }
 {
     match r {
+        Ok((sizes, text)) => went(Counts {
+            depths: d,
+            sizes,
+            text,
+            ..c
+        }),
         Err(q) => refused(c, q),
-        Ok((y, m)) => {
-            let mut e = c;
-            e.depths = d;
-            e.sizes = y;
-            e.text = m;
-            went(e)
-        }
     }
 }
 

@@ -1,5 +1,5 @@
 use Rattle.finish.specs.Laws.{finish_more}
 use Rattle.finish.proofs.finish.Goals as goal
 
-pub returns : goal.returns
-returns c = finish_more c.in-More.is c.execute_more-t.ensures c.steady-2.ensures
+pub returns-in-More : goal.returns-in-More
+returns-in-More c = finish_more c.in-More.is (rw c.with_depths-e.ensures at c.execute_more-t.ensures) c.steady.ensures
