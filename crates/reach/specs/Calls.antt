@@ -17,6 +17,7 @@ use Rattle.stacks.specs.declared.Depths.{Depths}
 use Rattle.stacks.specs.View
 use Rattle.stacks.specs.Laws.{with_operands, with_ip, ready_ip}
 use Rattle.heap.specs.View.{function_in, functions_of}
+use Rattle.heap.specs.declared.Registered.{Registered}
 use Rattle.heap.specs.declared.Sizes.{Sizes}
 use Rattle.outcome.specs.Meets.{Meets, Any, any, after_look}
 use Rattle.outcome.specs.declared.Stepped.{Stepped}
@@ -26,28 +27,27 @@ use Rattle.readops.specs.Holds.{Templates, Callable, calling}
 use Rattle.readops.specs.Calls.{calls_function, call_ready}
 use Rattle.quick.specs.Quickly.{Quickly, carry}
 
-module _ {rows starts : List ℕ} {images : ℕ} {d : Depths} {w w' : List ℕ} {f : Option (ℕ × ℕ)} {y : Stepped} (argc : ℕ) {i t : ℕ} (p : FunctionTemplate) (g : f ≡ Some (i, t))
-    (a : (code places : List ℕ) → template_from code places p ≡ slice_index_or (slice_index_or (images_of code places rows starts images) i []) t St.no_template) where
-  known : Meets Any (make (A.push_frame i t (View.called w (d.operands + 1) argc p.param_count p.local_count)) next) d w y w'
-      → (code places : List ℕ) → Meets (Templates code places rows starts images) (calling (function_in f) (View.arguments w (d.operands + 1) argc)) d w y w'
+module _ {rows starts : List ℕ} {images : ℕ} {d : Depths} {w w' : List ℕ} {y : Stepped} (argc : ℕ) {f : Registered} (p : FunctionTemplate)
+    (a : (code places : List ℕ) → template_from code places p ≡ slice_index_or (slice_index_or (images_of code places rows starts images) f.image []) f.template St.no_template) where
+  known : Meets Any (make (A.push_frame f.image f.template (View.called w (d.operands + 1) argc p.param_count p.local_count)) next) d w y w'
+      → (code places : List ℕ) → Meets (Templates code places rows starts images) (calling (function_in (Some f)) (View.arguments w (d.operands + 1) argc)) d w y w'
   known m code places =
       let args = View.arguments w (d.operands + 1) argc in
-      subst (λ (u : Option (ℕ × ℕ)). Meets (Templates code places rows starts images) (calling (function_in u) args) d w y w') (sym g)
-      (after_look
-      (λ s h. ap (λ (b : List (List Im.Template)). make (A.push_frame i t (I.locals (slice_index_or (slice_index_or b i []) t St.no_template) args)) next) h.held
-      ∙ ap (λ (b : Im.Template). make (A.push_frame i t (I.locals b args)) next) (sym (a code places)))
-      (any m))
+      after_look
+      (λ s h. ap (λ (b : List (List Im.Template)). make (A.push_frame f.image f.template (I.locals (slice_index_or (slice_index_or b f.image []) f.template St.no_template) args)) next) h.held
+      ∙ ap (λ (b : Im.Template). make (A.push_frame f.image f.template (I.locals b args)) next) (sym (a code places)))
+      (any m)
 
 -- the callee and the arguments are popped, after the operand
 module _ {d e c : Depths} {w : List ℕ} {argc at : ℕ} (l : argc < d.operands) (a : at ≡ d.operands - argc - 1) (f : e ≡ with_ip (d.ip + 1) d) (b : c ≡ with_operands at e) where
   pub frame_ready : View.Ready d w → View.Ready c w × (c.operands + 1 + argc ≤ St.operand_limit)
   frame_ready r = call_ready {e = with_ip (d.ip + 1) d} (ready_ip (d.ip + 1) r) l a (b ∙ ap (with_operands at) f)
 
-  pub function_calls : {x : Running} {n : ℕ} {code places rows starts : List ℕ} {images : ℕ} {z : Sizes} {heap w' : List ℕ} {v : Value} {id i t : ℕ} {k : Option (ℕ × ℕ)} {q : Option Depths} (p : FunctionTemplate)
+  pub function_calls : {x : Running} {n : ℕ} {code places rows starts : List ℕ} {images : ℕ} {z : Sizes} {heap w' : List ℕ} {v : Value} {id : ℕ} {g : Registered} {q : Option Depths} (p : FunctionTemplate)
       → Fetches x n code d (Some (argc, (with_ip (d.ip + 1) d))) → Runs x d w → value_of v ≡ value_at w (3 * at) → v ≡ Function id
-      → function_in k ≡ get_elem? (functions_of heap z.functions) id → k ≡ Some (i, t)
-      → ((code places : List ℕ) → template_from code places p ≡ slice_index_or (slice_index_or (images_of code places rows starts images) i []) t St.no_template)
-      → Quickly Any (make (A.push_frame i t (View.called w (c.operands + 1) argc p.param_count p.local_count)) next) c w q w'
+      → function_in (Some g) ≡ get_elem? (functions_of heap z.functions) id
+      → ((code places : List ℕ) → template_from code places p ≡ slice_index_or (slice_index_or (images_of code places rows starts images) g.image []) g.template St.no_template)
+      → Quickly Any (make (A.push_frame g.image g.template (View.called w (c.operands + 1) argc p.param_count p.local_count)) next) c w q w'
       → Quickly (Callable x n code places rows starts images z heap) I.Call d w q w'
-  function_calls {k = k} p fetched r t g h j o m =
-      carry (λ y s. calls_function fetched r refl l a (b ∙ ap (with_operands at) f) t k (record { is = ap value_of g }) refl h (known argc p j o s)) m
+  function_calls {g = g} p fetched r t e h o m =
+      carry (λ y s. calls_function fetched r refl l a (b ∙ ap (with_operands at) f) t (Some g) (record { is = ap value_of e }) refl h (known argc p o s)) m

@@ -18,10 +18,8 @@ use Rattle.value.specs.Words.{value_of, value_at, decode_of, Holds}
 use Rattle.value.specs.declared.Value.{Value}
 use Rattle.value.specs.declared.Value.TheVariants.{Number, Object}
 use Rattle.texts.specs.Keeps.{text_limit}
-use Rattle.texts.specs.Spans.{part_of, Places}
 use Rattle.texts.specs.Sources.{stores_of, source_bytes}
 use Rattle.texts.specs.Spells.{Spells}
-use Rattle.texts.specs.declared.Part.{Part}
 use Rattle.texts.specs.declared.Source.TheVariants.{Buffer}
 use Rattle.stacks.specs.Laws.{with_operands, pop_took, pop_ready, push_holds}
 use Rattle.stacks.specs.View
@@ -32,7 +30,7 @@ use Rattle.heap.specs.Rows.{Finds}
 use Rattle.heap.specs.Finds.{pair_at, property_at, object_known}
 use Rattle.heap.specs.declared.Sizes.{Sizes}
 use Rattle.heap.specs.declared.ObjectType.{ObjectType}
-use Rattle.heap.specs.declared.ObjectType.TheVariants.{Ordinary, Array, NoObject}
+use Rattle.heap.specs.declared.ObjectType.TheVariants.{Ordinary, Array}
 use Rattle.objects.specs.View.{Puts}
 use Rattle.arrays.specs.Sets.{Sets, sets_ordinary, sets_array, array_below}
 use Rattle.outcome.specs.Meets.{Meets, Any, Pairs, settles, pair_both}
@@ -68,25 +66,19 @@ accessed w k e f =
     record { told = (rw e refl, ap (λ (i : ℕ). M.number (slice_index w i)) z ∙ rw f refl) }
 
 -- The row of a number's text, which a buffer has room for
-pub record FindsElement (t : List ℕ) (m : ℕ) (h : List ℕ) (n o v : ℕ) (r : Option ℕ) : Type 0 where
-  pub row : Locates (pair_at (bytes_of t m) h o (N.format_js_number v)) n r
+pub record FindsElement (t h : List ℕ) (n o v : ℕ) (r : Option ℕ) : Type 0 where
+  pub row : Locates (pair_at t h o (N.format_js_number v)) n r
   pub short : length (N.format_js_number v) ≤ longest_text
 
 -- searched by what was written of it
-pub element_searched : {t : List ℕ} {m : ℕ} {h : List ℕ} {n o v x k : ℕ} {r : Option ℕ} {b b' : List ℕ} → x ≡ v → Formats (N.format_js_number x) b b' k
-    → Finds (pair_at (bytes_of t m) h o (part_of b' 0 k)) n r → FindsElement t m h n o v r
-element_searched {t} {m} {h} {n} {o} {v} {x} {k} {r} {b} {b'} e f l =
+pub element_searched : {t h : List ℕ} {n o v x k : ℕ} {r : Option ℕ} {b b' : List ℕ} → x ≡ v → Formats (N.format_js_number x) b b' k → Finds (pair_at t h o (take k b')) n r → FindsElement t h n o v r
+element_searched {t} {h} {n} {o} {v} {x} {k} {r} {b} {b'} e f l =
     let key = N.format_js_number x in
-    let z : k - 0 ≡ k = omega arith in
-    let y : part_of b' 0 k ≡ key = ap (λ (i : ℕ). take i b') z ∙ ap (take k) f.bytes ∙ take_at key (drop k b) k (sym f.count) in
-    subst (λ (u : ℕ). FindsElement t m h n o u r) e (record { row = located (subst (λ (a : List ℕ). Finds (pair_at (bytes_of t m) h o a) n r) y l); short = omega (arith, f.count, f.most) })
+    let y : take k b' ≡ key = ap (take k) f.bytes ∙ take_at key (drop k b) k (sym f.count) in
+    subst (λ (u : ℕ). FindsElement t h n o u r) e (record { row = located (subst (λ (a : List ℕ). Finds (pair_at t h o a) n r) y l); short = omega (arith, f.count, f.most) })
 
-pub element_guessed : {t : List ℕ} {m : ℕ} {h : List ℕ} {n o v : ℕ} (i : ℕ) → v < 2 ^ 64 → i < n → RowIs t m h (properties_at + 6 * i) o (N.format_js_number v) → FindsElement t m h n o v (Some i)
+pub element_guessed : {t h : List ℕ} {n o v : ℕ} (i : ℕ) → v < 2 ^ 64 → i < n → RowIs t h (properties_at + 6 * i) o (N.format_js_number v) → FindsElement t h n o v (Some i)
 element_guessed {v = v} i l k f = record { row = guessed k (row_pair i f); short = text_length v l }
-
--- guessed or searched, it is this row
-pub element_at : {t : List ℕ} {m : ℕ} {h : List ℕ} {n o v i j : ℕ} {r : Option ℕ} → FindsElement t m h n o v r → r ≡ Some j → i ≡ j → FindsElement t m h n o v (Some i)
-element_at {t} {m} {h} {n} {o} {v} f e q = subst (λ (y : Option ℕ). FindsElement t m h n o v y) (e ∙ ap Some (sym q)) f
 
 abbrev filled : List ℕ → List ℕ
 filled t = t ++ row_of (longest_text - length t) (λ i. 0)
@@ -100,11 +92,11 @@ spelled v l =
     }
 
 -- both are popped
-access_pair : {e : Depths} {w : List ℕ} {k id v : ℕ} {a : Option (ℕ × ℕ)} → View.Ready e w → 2 ≤ e.operands → k ≡ 3 * (e.operands - 2) → Accesses w k a → a ≡ Some (id, v)
+access_pair : {e : Depths} {w : List ℕ} {k id v : ℕ} → View.Ready e w → 2 ≤ e.operands → k ≡ 3 * (e.operands - 2) → Accesses w k (Some (id, v))
     → Pairs e w (Some ((Object id), (Number v), (with_operands (e.operands - 2) e)))
-access_pair {e} {w} {k} {id} {v} good two place acc is =
+access_pair {e} {w} {k} {id} {v} good two place acc =
     let n = e.operands in
-    let t : AccessTold w k (Some (id, v)) = rw is at acc.told in
+    let t : AccessTold w k (Some (id, v)) = acc.told in
     let y : k + 3 ≡ 3 * (n - 1) = omega arith in
     let z : k ≡ 3 * (n - 1 - 1) = omega arith in
     let q : n - 1 - 1 ≡ n - 2 = omega arith in
@@ -116,15 +108,18 @@ lower_ready : {n : ℕ} {d : Depths} {w : List ℕ} → n ≤ d.operands → Vie
 lower_ready l r = record { operands = omega (arith, r.operands); slots = r.slots; frames = r.frames; handlers = r.handlers; size = r.size }
 
 -- LoadIndex: the value stands where the object stood
-module _ (z : Sizes) {m : ℕ} {text : List ℕ} {heap : List ℕ} {d : Depths} {w w' : List ℕ} {k id v j : ℕ} {a : Option (ℕ × ℕ)} {r : Option ℕ} {e : Depths}
-    (good : View.Ready d w) (two : 2 ≤ d.operands) (place : k ≡ 3 * (d.operands - 2)) (acc : Accesses w k a) (is : a ≡ Some (id, v)) (known : id < z.objects)
-    (f : FindsElement text m heap z.properties id v r) (at : r ≡ Some j) (h : Holds w w' k (value_at heap (properties_at + 6 * j + 3))) (l : length w' ≡ length w)
+module _ (z : Sizes) (m : ℕ) (text : List ℕ) {heap : List ℕ} {d : Depths} {w w' : List ℕ} {k id v j : ℕ} {e : Depths}
+    (good : View.Ready d w) (two : 2 ≤ d.operands) (place : k ≡ 3 * (d.operands - 2)) (acc : Accesses w k (Some (id, v))) (known : id < z.objects)
+    {t : List ℕ} (u : t ≡ bytes_of text m) (g : FindsElement t heap z.properties id v (Some j)) (h : Holds w w' k (value_at heap (properties_at + 6 * j + 3))) (l : length w' ≡ length w)
     (end : e ≡ with_operands (d.operands - 1) d) where
   abbrev found : M.Value
   found = value_at heap (properties_at + 6 * j + 3)
 
   abbrev below : Depths
   below = with_operands (d.operands - 2) d
+
+  row_loaded : FindsElement (bytes_of text m) heap z.properties id v (Some j)
+  row_loaded = subst (λ (x : List ℕ). FindsElement x heap z.properties id v (Some j)) u g
 
   put : Quickly Any (I.pushed found) below w (Some e) w'
   put =
@@ -136,9 +131,9 @@ module _ (z : Sizes) {m : ℕ} {text : List ℕ} {heap : List ℕ} {d : Depths} 
   loads n code long =
       let key = N.format_js_number v in
       surely put
-      (λ D. carry (λ y p. loads_index (access_pair good two place acc is) (as_value found) refl (spelled v f.short) (sym ((spelled v f.short).bytes (stores_of code n text m))) long
+      (λ D. carry (λ y p. loads_index (access_pair good two place acc) (as_value found) refl (spelled v row_loaded.short) (sym ((spelled v row_loaded.short).bytes (stores_of code n text m))) long
       (λ c _. object_known (stores_of c n text m) heap z.objects z.properties id key (value_of (as_value found)) known
-      (property_at (bytes_of text m) heap id key z.properties r (f.row.finds (D.pairs id key)) (bytes_of c n) j (as_value found) at (as_value_lem found)))
+      (property_at (stores_of c n text m) heap id key z.properties (Some j) (row_loaded.row.finds (D.pairs id key)) j (as_value found) refl (as_value_lem found)))
       (subst (λ (u : M.Value). Meets Any (I.pushed u) below w y w') (sym (as_value_lem found)) p)) put)
 
   pub index_loads : (n : ℕ)
@@ -240,85 +235,89 @@ same_self : (l : List ℕ) → same l l ≡ true
 same_self [] = refl
 same_self (x ∷ xs) = ap (λ (b : Bool). b && same xs xs) (eq-eqb x x refl) ∙ same_self xs
 
-pub digits_row : {t : List ℕ} {m : ℕ} {h : List ℕ} {k o v n : ℕ} {p : Part} {y : Option ℕ} → IndexIs v y → y ≡ Some n → slice_index h k ≡ o → Places (slice_index h (k + 1)) (slice_index h (k + 2)) m p
-    → m ≤ length t → N.decimal n ≡ part_of t p.from p.to → RowIs t m h k o (N.format_js_number v)
-digits_row {t} {m} {h} {k} {o} {v} {n} i a e p l d =
+pub digits_row : {t h b : List ℕ} {k o v n : ℕ} {y : Option ℕ} → IndexIs v y → y ≡ Some n → slice_index h k ≡ o → b ≡ take (slice_index h (k + 2)) (drop (slice_index h (k + 1)) t) → N.decimal n ≡ b
+    → RowIs t h k o (N.format_js_number v)
+digits_row {v = v} {n} i a e p d =
     let x : IndexTold v (Some n) = rw a at i.told in
     let key = N.format_js_number v in
-    record { head = e; key = ap (λ (b : List ℕ). same b key) (sym (p.bytes t l) ∙ sym d ∙ x.0) ∙ same_self key }
+    record { head = e; key = ap (λ (b : List ℕ). same b key) (sym p ∙ sym d ∙ x.0) ∙ same_self key }
 
 -- An element below an array's length, whose row is p
-pub record Below (t : List ℕ) (m : ℕ) (h : List ℕ) (n o v p : ℕ) : Type 0 where
+pub record Below (t h : List ℕ) (n o v p : ℕ) : Type 0 where
   pub index : ℕ
   pub key : some index ≡ array_key (N.format_js_number v)
-  pub row : Locates (pair_at (bytes_of t m) h o length_key) n (Some p)
+  pub row : Locates (pair_at t h o length_key) n (Some p)
   pub below : index < length_floor (value_at h (properties_at + 6 * p + 3))
 
-abbrev pub BelowTold : List ℕ → ℕ → List ℕ → ℕ → ℕ → ℕ → Option ℕ → Type 0
-BelowTold t m h n o v (Some p) = Below t m h n o v p
-BelowTold t m h n o v None = Unit {0}
+abbrev pub BelowTold : List ℕ → List ℕ → ℕ → ℕ → ℕ → Option ℕ → Type 0
+BelowTold t h n o v (Some p) = Below t h n o v p
+BelowTold t h n o v None = Unit {0}
 
-pub record IsBelow (t : List ℕ) (m : ℕ) (h : List ℕ) (n o v : ℕ) (r : Option ℕ) : Type 0 where
-  pub told : BelowTold t m h n o v r
+pub record IsBelow (t h : List ℕ) (n o v : ℕ) (r : Option ℕ) : Type 0 where
+  pub told : BelowTold t h n o v r
 
-pub is_below : {t : List ℕ} {m : ℕ} {h : List ℕ} {n o v e p floor : ℕ} {y : Option ℕ} {r : Option ℕ} (u : Value) → IndexIs v y → y ≡ Some e → Locates (pair_at (bytes_of t m) h o length_key) n r → r ≡ Some p
-    → value_of u ≡ value_at h (properties_at + 6 * p + 3) → floor ≡ length_floor (value_of u) → e < floor → IsBelow t m h n o v (Some p)
-is_below {t} {m} {h} {n} {o} {v} {e} {p} u i a l b q f g = record {
+pub is_below : {t h : List ℕ} {n o v e p floor : ℕ} (u : Value) → IndexIs v (Some e) → Locates (pair_at t h o length_key) n (Some p)
+    → value_of u ≡ value_at h (properties_at + 6 * p + 3) → floor ≡ length_floor (value_of u) → e < floor → IsBelow t h n o v (Some p)
+is_below {t} {h} {n} {o} {v} {e} {p} u i l q f g = record {
   told = record {
     index = e;
-    key = let x : IndexTold v (Some e) = rw a at i.told in decimal_key e (omega (arith, x.1)) ∙ ap array_key x.0;
-    row = rw b at l;
+    key = let x : IndexTold v (Some e) = i.told in decimal_key e (omega (arith, x.1)) ∙ ap array_key x.0;
+    row = l;
     below = let z = f ∙ ap length_floor q in omega (arith, z);
   };
 }
 
 -- A store that alters the row of its key alone: into an ordinary object, or below an array's length
-abbrev pub AloneTold : ObjectType → List ℕ → ℕ → List ℕ → ℕ → ℕ → ℕ → Option ℕ → Type 0
-AloneTold NoObject t m h n o v (Some p) = ⊥
-AloneTold Ordinary t m h n o v (Some p) = Unit {0}
-AloneTold Array t m h n o v (Some p) = Below t m h n o v p
-AloneTold k t m h n o v None = Unit {0}
+abbrev pub AloneTold : ObjectType → List ℕ → List ℕ → ℕ → ℕ → ℕ → Option ℕ → Type 0
+AloneTold Ordinary t h n o v (Some p) = Unit {0}
+AloneTold Array t h n o v (Some p) = Below t h n o v p
+AloneTold k t h n o v None = Unit {0}
 
-pub record PutsAlone (k : ObjectType) (t : List ℕ) (m : ℕ) (h : List ℕ) (n o v : ℕ) (r : Option ℕ) : Type 0 where
-  pub told : AloneTold k t m h n o v r
+pub record PutsAlone (k : ObjectType) (t h : List ℕ) (n o v : ℕ) (r : Option ℕ) : Type 0 where
+  pub told : AloneTold k t h n o v r
 
 alone_sets : (kind : ObjectType) (p : ℕ) (z : Sizes) (w : List ℕ) (m : ℕ) (t : List ℕ) (o v : ℕ) (u : M.Value) (x : Result (Sizes × ℕ) Space) (w' t' : List ℕ)
-    → AloneTold kind t m w z.properties o v (Some p) → kind_in kind ≡ get_elem? (objects_of w z.objects) o → Distinct z w m t → Sized z w
+    → AloneTold kind (bytes_of t m) w z.properties o v (Some p) → kind_in (Some kind) ≡ get_elem? (objects_of w z.objects) o → Distinct z w m t → Sized z w
     → Puts (A.put_property o (N.format_js_number v) u) z w m t x w' t' → Sets (M.object o) (N.format_js_number v) u z w m t x w' t'
-alone_sets NoObject p z w m t o v u x w' t' a k D good s = absurd a
-alone_sets Ordinary p z w m t o v u x w' t' a k D good s = sets_ordinary z w m t o (N.format_js_number v) u Ordinary k x w' t' refl good s
+alone_sets Ordinary p z w m t o v u x w' t' a k D good s = sets_ordinary z w m t o (N.format_js_number v) u (Some Ordinary) k x w' t' refl good s
 alone_sets Array p z w m t o v u x w' t' a k D good s =
     let key = N.format_js_number v in
     let l = value_at w (properties_at + 6 * p + 3) in
-    sets_array z w m t o key u Array k x w' t' refl
+    sets_array z w m t o key u (Some Array) k x w' t' refl
     (array_below z w m t o key u (Some a.index) a.key a.index refl (Some p) (a.row.finds (D.pairs o length_key)) p refl (as_value l) (as_value_lem l) (length_floor l)
     (ap length_floor (sym (as_value_lem l))) x w' t' a.below good s)
 
-pub alone_ordinary : {k : ObjectType} {t : List ℕ} {m : ℕ} {h : List ℕ} {n o v p : ℕ} → k ≡ Ordinary → PutsAlone k t m h n o v (Some p)
+pub alone_ordinary : {k : ObjectType} {t h : List ℕ} {n o v p : ℕ} → k ≡ Ordinary → PutsAlone k t h n o v (Some p)
 alone_ordinary e = rw e (record { told = tt })
 
-alone_array : (t : List ℕ) (m : ℕ) (h : List ℕ) (n o v : ℕ) (r : Option ℕ) → BelowTold t m h n o v r → AloneTold Array t m h n o v r
-alone_array t m h n o v (Some p) b = b
-alone_array t m h n o v None b = tt
+alone_array : (t h : List ℕ) (n o v : ℕ) (r : Option ℕ) → BelowTold t h n o v r → AloneTold Array t h n o v r
+alone_array t h n o v (Some p) b = b
+alone_array t h n o v None b = tt
 
-pub alone_below : {k : ObjectType} {t : List ℕ} {m : ℕ} {h : List ℕ} {n o v : ℕ} {r : Option ℕ} → k ≡ Array → IsBelow t m h n o v r → PutsAlone k t m h n o v r
-alone_below {t = t} {m = m} {h = h} {n = n} {o = o} {v = v} {r = r} e b = rw e (record { told = alone_array t m h n o v r b.told })
+pub alone_below : {k : ObjectType} {t h : List ℕ} {n o v : ℕ} {r : Option ℕ} → k ≡ Array → IsBelow t h n o v r → PutsAlone k t h n o v r
+alone_below {t = t} {h = h} {n = n} {o = o} {v = v} {r = r} e b = rw e (record { told = alone_array t h n o v r b.told })
 
 -- StoreIndex: the value above the number is brought into the row
-module _ (c : Counts) {w h t h' : List ℕ} {k id v j p : ℕ} {a : Option (ℕ × ℕ)} {r : Option ℕ} {kind : ObjectType} {y : Option ℕ} {e : Depths}
+module _ (c : Counts) (t : List ℕ) {w h h' : List ℕ} {k id v j p : ℕ} {kind : ObjectType} {e : Depths}
     (good : View.Ready c.depths w) (sized : Sized c.sizes h) (fits : (c.text ≤ text_limit) × (length t ≡ text_limit)) (three : 3 ≤ c.depths.operands)
-    (place : k ≡ 3 * (c.depths.operands - 3)) (acc : Accesses w k a) (is : a ≡ Some (id, v)) (f : FindsElement t c.text h c.sizes.properties id v r) (at : r ≡ Some j)
-    (q : kind_in kind ≡ get_elem? (objects_of h c.sizes.objects) id) (alone : PutsAlone kind t c.text h c.sizes.properties id v y) (by : y ≡ Some p)
+    (place : k ≡ 3 * (c.depths.operands - 3)) (acc : Accesses w k (Some (id, v))) {b : List ℕ} (u : b ≡ bytes_of t c.text) (g : FindsElement b h c.sizes.properties id v (Some j))
+    (q : kind_in (Some kind) ≡ get_elem? (objects_of h c.sizes.objects) id) (only : PutsAlone kind b h c.sizes.properties id v (Some p))
     (held : Holds h h' (properties_at + 6 * j + 3) (value_at w (k + 6))) (same : length h' ≡ length h) (end : e ≡ with_operands (c.depths.operands - 3) c.depths) where
   abbrev top : M.Value
   top = newest c.depths w
+
+  row_stored : FindsElement (bytes_of t c.text) h c.sizes.properties id v (Some j)
+  row_stored = subst (λ (x : List ℕ). FindsElement x h c.sizes.properties id v (Some j)) u g
+
+  alone : PutsAlone kind (bytes_of t c.text) h c.sizes.properties id v (Some p)
+  alone = subst (λ (x : List ℕ). PutsAlone kind x h c.sizes.properties id v (Some p)) u only
 
   pair : Pairs (with_operands (c.depths.operands - 1) c.depths) w (Some ((Object id), (Number v), (with_operands (c.depths.operands - 3) c.depths)))
   pair =
       let d = c.depths in
       let z : d.operands - 1 - 2 ≡ d.operands - 3 = omega arith in
       subst (λ (i : ℕ). Pairs (with_operands (d.operands - 1) d) w (Some ((Object id), (Number v), (with_operands i d)))) z
-      (access_pair {e = with_operands (d.operands - 1) d} (pop_ready d w good) (omega arith) (omega arith) acc is)
+      (access_pair {e = with_operands (d.operands - 1) d} (pop_ready d w good) (omega arith) (omega arith) acc)
 
   held_top : Holds h h' (properties_at + 6 * j + 3) top
   held_top =
@@ -330,11 +329,10 @@ module _ (c : Counts) {w h t h' : List ℕ} {k id v j p : ℕ} {a : Option (ℕ 
       (Ok (c.sizes, c.text)) h' t
   stored D code =
       let key = N.format_js_number v in
-      let told : AloneTold kind t c.text h c.sizes.properties id v (Some p) = rw by at alone.told in
       subst (λ (b : List ℕ). Sets (M.object id) b (value_of (as_value top)) c.sizes h c.text t (Ok (c.sizes, c.text)) h' t)
-      (sym ((spelled v f.short).bytes (stores_of code c.code t c.text)))
-      (alone_sets kind p c.sizes h c.text t id v (value_of (as_value top)) (Ok (c.sizes, c.text)) h' t told q D sized
-      (property_held c.sizes h c.text t sized fits.0 fits.1 key r top j h' at same id (f.row.finds (D.pairs id key)) held_top))
+      (sym ((spelled v row_stored.short).bytes (stores_of code c.code t c.text)))
+      (alone_sets kind p c.sizes h c.text t id v (value_of (as_value top)) (Ok (c.sizes, c.text)) h' t alone.told q D sized
+      (property_held c.sizes h c.text t sized fits.0 fits.1 key (Some j) top j h' refl same id (row_stored.row.finds (D.pairs id key)) held_top))
 
   stores : (code o : List ℕ) → Distinct c.sizes h c.text t → Reaches (Loaded c.code code) I.StoreIndex c (mem w h t o) (Some e) (mem w h' t o)
   stores code o D =
@@ -342,7 +340,7 @@ module _ (c : Counts) {w h t h' : List ℕ} {k id v j p : ℕ} {a : Option (ℕ 
       subst (λ (y : Depths). Reaches (Loaded c.code code) I.StoreIndex c (mem w h t o) (Some y) (mem w h' t o)) (sym end)
       (record {
         told = (
-          index_stored code (pop_took d w good (as_value top) (λ z. omega arith) (as_value_lem top)) refl pair refl (spelled v f.short) (stored D code) refl o,
+          index_stored code (pop_took d w good (as_value top) (λ z. omega arith) (as_value_lem top)) refl pair refl (spelled v row_stored.short) (stored D code) refl o,
           lower_ready (omega arith) good,
         );
       })

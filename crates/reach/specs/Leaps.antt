@@ -30,7 +30,7 @@ use Rattle.heapops.specs.Makes.{with_text, text_pushed_lem, joined}
 use Rattle.finish.specs.Parts.{Tables, Ground}
 use Rattle.quick.specs.Quickly.{Inside}
 use Rattle.reach.specs.Reaches as Reach
-use Rattle.reach.specs.Reaches.{Reaches}
+use Rattle.reach.specs.Reaches.{Reaches, counted}
 
 -- the counts after it
 abbrev pub leapt_to : Depths → ℕ → Counts → Counts
@@ -52,16 +52,11 @@ StepTold H c m None m' = m' ≡ m
 pub record LeapStep (H : St.State → Type 0) (c : Counts) (m : Mem) (r : Option (Depths × ℕ)) (m' : Mem) : Type 0 where
   pub told : StepTold H c m r m'
 
--- with the text as it was
-abbrev pub leap_of : ℕ → Option Depths → (Option (Depths × ℕ))
-leap_of m (Some e) = Some (e, m)
-leap_of m None = None
-
-quick_told : (H : St.State → Type 0) (p : Program) (c : Counts) (m m' : Mem) (q : Option Depths) → c.text ≤ text_limit → Reach.Told H p c m q m' → Told H p c m (leap_of c.text q) m'
+quick_told : (H : St.State → Type 0) (p : Program) (c : Counts) (m m' : Mem) (q : Option Depths) → c.text ≤ text_limit → Reach.Told H p c m q m' → Told H p c m (counted c.text q) m'
 quick_told H p c m m' (Some e) l t = (t.0, t.1, l)
 quick_told H p c m m' None l t = t
 
-pub leap_lifts : {H : St.State → Type 0} {p : Program} {c : Counts} {m m' : Mem} {q : Option Depths} {r : Option (Depths × ℕ)} → c.text ≤ text_limit → r ≡ leap_of c.text q → Reaches H p c m q m' → Leaps H p c m r m'
+pub leap_lifts : {H : St.State → Type 0} {p : Program} {c : Counts} {m m' : Mem} {q : Option Depths} {r : Option (Depths × ℕ)} → c.text ≤ text_limit → r ≡ counted c.text q → Reaches H p c m q m' → Leaps H p c m r m'
 leap_lifts {H} {p} {c} {m} {m'} {q} l e t = subst (λ (y : Option (Depths × ℕ)). Leaps H p c m y m') (sym e) (record { told = quick_told H p c m m' q l t.told })
 
 weaken_told : (H K : St.State → Type 0) (p : Program) (c : Counts) (m m' : Mem) (r : Option (Depths × ℕ)) → ((s : St.State) → H s → K s) → Told K p c m r m' → Told H p c m r m'

@@ -1,5 +1,5 @@
 -- A name that is a text of the code, and the global or the property that is found by it. Assumes nothing.
-use Rattle.std.specs.Prelude.{◌≡◌, ℕ, ◌+◌, ◌-◌, ◌*◌, ◌<◌, ◌≤◌, true, List, length, ◌≢◌, slice_index, slice_index_or, refl, Option, Some, None, Ok}
+use Rattle.std.specs.Prelude.{◌≡◌, ℕ, ◌+◌, ◌-◌, ◌*◌, ◌<◌, ◌≤◌, true, List, length, take, drop, ◌≢◌, slice_index, slice_index_or, refl, Option, Some, None, Ok}
 use Rattle.std.proofs.Common.{arith, sym, ap, subst, ◌∙◌}
 use Rattle.std.proofs.Math.Option.{Option as Maybe, some}
 use Rattle.std.proofs.Math.ListN.{get_elem?}
@@ -26,7 +26,7 @@ use Rattle.stacks.specs.declared.Depths.{Depths}
 use Rattle.heap.specs.Layout.{properties_at, globals_at}
 use Rattle.heap.specs.View.{Sized, objects_of, kind_in}
 use Rattle.heap.specs.Rows.{Finds}
-use Rattle.heap.specs.Finds.{text_is, pair_is, named_kept, name_at, pair_at, global_at, property_at, object_known}
+use Rattle.heap.specs.Finds.{stores, text_is, pair_is, named_kept, name_at, pair_at, global_at, property_at, object_known}
 use Rattle.heap.specs.declared.Sizes.{Sizes}
 use Rattle.heap.specs.declared.ObjectType.{ObjectType}
 use Rattle.heap.specs.declared.ObjectType.TheVariants.{Ordinary}
@@ -53,23 +53,29 @@ NameTold o None = Unit {0}
 pub record Names (o : Maybe Im.Constant) (r : Option (ℕ × ℕ)) : Type 0 where
   pub told : NameTold o r
 
--- a row's head, and its key in m bytes of text
-pub record RowIs (t : List ℕ) (m : ℕ) (h : List ℕ) (k o : ℕ) (bytes : List ℕ) : Type 0 where
+-- a row's head, and its key in the text in use
+pub record RowIs (t h : List ℕ) (k o : ℕ) (bytes : List ℕ) : Type 0 where
   pub head : slice_index_or h k 0 ≡ o
-  pub key : text_is (bytes_of t m) (slice_index h (k + 1)) (slice_index h (k + 2)) bytes ≡ true
+  pub key : text_is t (slice_index h (k + 1)) (slice_index h (k + 2)) bytes ≡ true
 
-pub row_pair : {t : List ℕ} {m : ℕ} {h : List ℕ} {o : ℕ} {key : List ℕ} (i : ℕ) → RowIs t m h (properties_at + 6 * i) o key → pair_at (bytes_of t m) h o key i ≡ true
-row_pair {t} {m} {h} {o} {key} i r = sym (pair_is (bytes_of t m) o key h (properties_at + 6 * i) true r.head (sym r.key))
+pub row_pair : {t h : List ℕ} {o : ℕ} {key : List ℕ} (i : ℕ) → RowIs t h (properties_at + 6 * i) o key → pair_at t h o key i ≡ true
+row_pair {t} {h} {o} {key} i r = sym (pair_is t o key h (properties_at + 6 * i) true r.head (sym r.key))
 
-pub row_name : {t : List ℕ} {m : ℕ} {h key : List ℕ} (i : ℕ) → RowIs t m h (globals_at + 6 * i) 0 key → name_at (bytes_of t m) h key i ≡ true
-row_name {t} {m} {h} {key} i r = sym (named_kept (bytes_of t m) key h (globals_at + 6 * i) true r.head (sym r.key))
+pub row_name : {t h key : List ℕ} (i : ℕ) → RowIs t h (globals_at + 6 * i) 0 key → name_at t h key i ≡ true
+row_name {t} {h} {key} i r = sym (named_kept t key h (globals_at + 6 * i) true r.head (sym r.key))
 
--- the same key, written otherwise
-pub pair_as : (t h : List ℕ) (o n : ℕ) {r : Option ℕ} {k k' : List ℕ} → k ≡ k' → Locates (pair_at t h o k) n r → Locates (pair_at t h o k') n r
-pair_as t h o n {r} e f = subst (λ (x : List ℕ). Locates (pair_at t h o x) n r) e f
+-- found in the text in use, by a name cut from the code in use
+pub pair_as : (text : List ℕ) (m : ℕ) (code : List ℕ) (n at size : ℕ) (h : List ℕ) (o : ℕ) {t b key : List ℕ} {k : ℕ} {r : Option ℕ} → t ≡ bytes_of text m → b ≡ bytes_of code n → key ≡ take size (drop at b)
+    → Locates (pair_at t h o key) k r → Locates (pair_at (bytes_of text m) h o (named code n at size)) k r
+pair_as text m code n at size h o {t} {b} {key} {k} {r} u v w f =
+    let e : key ≡ named code n at size = w ∙ ap (λ (x : List ℕ). take size (drop at x)) v in
+    subst (λ (x : List ℕ). Locates (pair_at x h o (named code n at size)) k r) u (subst (λ (x : List ℕ). Locates (pair_at t h o x) k r) e f)
 
-pub name_as : (t h : List ℕ) (n : ℕ) {r : Option ℕ} {k k' : List ℕ} → k ≡ k' → Locates (name_at t h k) n r → Locates (name_at t h k') n r
-name_as t h n {r} e f = subst (λ (x : List ℕ). Locates (name_at t h x) n r) e f
+pub name_as : (text : List ℕ) (m : ℕ) (code : List ℕ) (n at size : ℕ) (h : List ℕ) {t b key : List ℕ} {k : ℕ} {r : Option ℕ} → t ≡ bytes_of text m → b ≡ bytes_of code n → key ≡ take size (drop at b)
+    → Locates (name_at t h key) k r → Locates (name_at (bytes_of text m) h (named code n at size)) k r
+name_as text m code n at size h {t} {b} {key} {k} {r} u v w f =
+    let e : key ≡ named code n at size = w ∙ ap (λ (x : List ℕ). take size (drop at x)) v in
+    subst (λ (x : List ℕ). Locates (name_at x h (named code n at size)) k r) u (subst (λ (x : List ℕ). Locates (name_at t h x) k r) e f)
 
 pub name_is : {c : Option Constant} {o : Maybe Im.Constant} {k : Constant} {at size : ℕ} → found_of c ≡ o → c ≡ Some k → k ≡ Str at size → Names o (Some (at, size))
 name_is a z t = record { told = sym a ∙ ap found_of (z ∙ ap (λ (u : Constant). Some u) t) }
@@ -78,9 +84,9 @@ name_is a z t = record { told = sym a ∙ ap found_of (z ∙ ap (λ (u : Constan
 abbrev blank : List ℕ
 blank = row_of longest_text (λ i. 0)
 
-spelled : {o : Maybe Im.Constant} {u : Option (ℕ × ℕ)} {at size : ℕ} (i : ℕ) → Names o u → u ≡ Some (at, size) → Spells (λ b. I.get_string_constant b i o) (Code at size) blank
-spelled {o} {u} {at} {size} i a b =
-    let e : o ≡ some (constant_of (Str at size)) = rw b at a.told in
+spelled : {o : Maybe Im.Constant} {at size : ℕ} (i : ℕ) → Names o (Some (at, size)) → Spells (λ b. I.get_string_constant b i o) (Code at size) blank
+spelled {o} {at} {size} i a =
+    let e : o ≡ some (constant_of (Str at size)) = a.told in
     spells_as (λ m. ap (I.get_string_constant m i) (sym e)) (spells_code i at size blank (row_length longest_text (λ i. 0)))
 
 -- any value is popped
@@ -91,23 +97,22 @@ pushed_as : {d : Depths} {w w' : List ℕ} {y : Stepped} (v : M.Value) → Meets
 pushed_as {d} {w} {w'} {y} v m = subst (λ (u : M.Value). Meets Any (I.pushed u) d w y w') (sym (as_value_lem v)) m
 
 module _ {x : Running} {n : ℕ} {code places : List ℕ} {m : ℕ} {text : List ℕ} {z : Sizes} {heap : List ℕ} {d : Depths} {w : List ℕ} {i : ℕ}
-    (f : Operand x n code d i) (q : Runs x d w) {u : Option (ℕ × ℕ)} (a : Names (constant_in x code places i) u) {at size : ℕ} (b : u ≡ Some (at, size))
-    {k : Option ℕ} {j : ℕ} (c : k ≡ Some j) where
-  pub global_loads : {y : Option Depths} {w' : List ℕ} → Finds (name_at (bytes_of text m) heap (named code n at size)) z.globals k
+    (f : Operand x n code d i) (q : Runs x d w) {at size : ℕ} (a : Names (constant_in x code places i) (Some (at, size))) {j : ℕ} where
+  pub global_loads : {y : Option Depths} {w' : List ℕ} → Finds (name_at (bytes_of text m) heap (named code n at size)) z.globals (Some j)
       → Quickly Any (I.pushed (value_at heap (globals_at + 6 * j + 3))) (with_ip (d.ip + 2) d) w y w' → Quickly (Named x n code places m text z heap) I.LoadGlobal d w y w'
   global_loads h t =
       let v = value_at heap (globals_at + 6 * j + 3) in
-      carry (λ y p. loads_global f q refl (spelled i a b) refl (as_value v)
-      (λ b. global_at (bytes_of text m) heap (named code n at size) z.globals k h b j (as_value v) c (as_value_lem v)) (pushed_as v p)) t
+      carry (λ y p. loads_global f q refl (spelled i a) refl (as_value v)
+      (λ b. global_at (stores b (bytes_of text m)) heap (named code n at size) z.globals (Some j) h j (as_value v) refl (as_value_lem v)) (pushed_as v p)) t
 
   pub property_loads : {y : Option Depths} {w' : List ℕ} {id : ℕ} {l : Depths} → View.Pops (with_ip (d.ip + 2) d) w (Some ((Object id), l)) → id < z.objects → n ≤ length code
-      → Finds (pair_at (bytes_of text m) heap id (named code n at size)) z.properties k
+      → Finds (pair_at (bytes_of text m) heap id (named code n at size)) z.properties (Some j)
       → Quickly Any (I.pushed (value_at heap (properties_at + 6 * j + 3))) l w y w' → Quickly (Named x n code places m text z heap) I.LoadProperty d w y w'
   property_loads {id = id} o known long h k' =
       let v = value_at heap (properties_at + 6 * j + 3) in
-      carry (λ y s. loads_property f q refl (spelled i a b) refl (as_value v) o refl long
+      carry (λ y s. loads_property f q refl (spelled i a) refl (as_value v) o refl long
       (λ b _. object_known (stores_of b n text m) heap z.objects z.properties id (named code n at size) (value_of (as_value v)) known
-      (property_at (bytes_of text m) heap id (named code n at size) z.properties k h (bytes_of b n) j (as_value v) c (as_value_lem v))) (pushed_as v s)) k'
+      (property_at (stores_of b n text m) heap id (named code n at size) z.properties (Some j) h j (as_value v) refl (as_value_lem v))) (pushed_as v s)) k'
 
 -- an object on top, behind the operand
 pub object_popped : {d e : Depths} {w : List ℕ} {p : ℕ} {v : Value} {id : ℕ} → View.Ready d w → e ≡ with_ip p d → (e.operands ≢ 0) → value_of v ≡ value_at w (3 * (e.operands - 1)) → v ≡ Object id
@@ -122,9 +127,8 @@ two_dropped {d} {e} {f} {w} {p} r z y =
 
 module _ {x : Running} {c : Counts} {code places w h t h' : List ℕ} {i : ℕ}
     (f : Operand x c.code code c.depths i) (q : Runs x c.depths w) (good : View.Ready c.depths w) (sized : Sized c.sizes h) (short : c.text ≤ text_limit) (long : length t ≡ text_limit)
-    {e : Depths} (g : e ≡ with_ip (c.depths.ip + 2) c.depths) {u : Option (ℕ × ℕ)} (a : Names (constant_in x code places i) u) {at size : ℕ} (b : u ≡ Some (at, size))
-    {k : Option ℕ} {j : ℕ} (d : k ≡ Some j) where
-  pub global_stores : (e.operands ≢ 0) → length h' ≡ length h → {l : Depths} → Finds (name_at (bytes_of t c.text) h (named code c.code at size)) c.sizes.globals k
+    {e : Depths} (g : e ≡ with_ip (c.depths.ip + 2) c.depths) {at size : ℕ} (a : Names (constant_in x code places i) (Some (at, size))) {j : ℕ} where
+  pub global_stores : (e.operands ≢ 0) → length h' ≡ length h → {l : Depths} → Finds (name_at (bytes_of t c.text) h (named code c.code at size)) c.sizes.globals (Some j)
       → Holds h h' (globals_at + 6 * j + 3) (newest e w) → l ≡ with_operands (e.operands - 1) e
       → (o : List ℕ) → Reaches (Constants x c.code code places) I.StoreGlobal c (mem w h t o) (Some l) (mem w h' t o)
   global_stores stands same {l} s p z o =
@@ -136,15 +140,15 @@ module _ {x : Running} {c : Counts} {code places w h t h' : List ℕ} {i : ℕ}
       subst (λ (y : Depths). Reaches (Constants x c.code code places) I.StoreGlobal c (mem w h t o) (Some y) (mem w h' t o)) (sym y)
       (record {
         told = (
-          global_stored places f q refl {p = Ok (c.sizes, c.text)} (spelled i a b) (took ready (λ n. stands (ap (λ (u : Depths). u.operands) g ∙ n))) refl
-              (global_held c.sizes h c.text t sized short long (named code c.code at size) k (newest behind w) j h' d same s p') refl o,
+          global_stored places f q refl {p = Ok (c.sizes, c.text)} (spelled i a) (took ready (λ n. stands (ap (λ (u : Depths). u.operands) g ∙ n))) refl
+              (global_held c.sizes h c.text t sized short long (named code c.code at size) (Some j) (newest behind w) j h' refl same s p') refl o,
           dropped_ready refl ready,
         );
       })
 
-  pub property_stores : 2 ≤ e.operands → length h' ≡ length h → {v : Value} {id : ℕ} {z : ObjectType} → value_of v ≡ value_at w (3 * (e.operands - 2)) → v ≡ Object id
-      → kind_in z ≡ get_elem? (objects_of h c.sizes.objects) id → z ≡ Ordinary
-      → Finds (pair_at (bytes_of t c.text) h id (named code c.code at size)) c.sizes.properties k
+  pub property_stores : 2 ≤ e.operands → length h' ≡ length h → {v : Value} {id : ℕ} {z : Option ObjectType} → value_of v ≡ value_at w (3 * (e.operands - 2)) → v ≡ Object id
+      → kind_in z ≡ get_elem? (objects_of h c.sizes.objects) id → z ≡ Some Ordinary
+      → Finds (pair_at (bytes_of t c.text) h id (named code c.code at size)) c.sizes.properties (Some j)
       → Holds h h' (properties_at + 6 * j + 3) (newest e w) → {l : Depths} → l ≡ with_operands (e.operands - 2) e
       → (o : List ℕ) → Reaches (Constants x c.code code places) I.StoreProperty c (mem w h t o) (Some l) (mem w h' t o)
   property_stores two same {v} {id} {z} is object kind plain s p {l} y o =
@@ -163,9 +167,9 @@ module _ {x : Running} {c : Counts} {code places w h t h' : List ℕ} {i : ℕ}
       subst (λ (y : Depths). Reaches (Constants x c.code code places) I.StoreProperty c (mem w h t o) (Some y) (mem w h' t o)) (sym l₁)
       (record {
         told = (
-          property_stored places f q refl {p = Ok (c.sizes, c.text)} (spelled i a b) (pair_both (took ready (λ q. omega (arith, two'))) refl popped refl) refl
+          property_stored places f q refl {p = Ok (c.sizes, c.text)} (spelled i a) (pair_both (took ready (λ q. omega (arith, two'))) refl popped refl) refl
               (sets_ordinary c.sizes h c.text t id (named code c.code at size) (value_of (as_value (newest behind w))) z kind (Ok (c.sizes, c.text)) h' t plain sized
-              (property_held c.sizes h c.text t sized short long (named code c.code at size) k (newest behind w) j h' d same id s p')) refl o,
+              (property_held c.sizes h c.text t sized short long (named code c.code at size) (Some j) (newest behind w) j h' refl same id s p')) refl o,
           popped.ready,
         );
       })

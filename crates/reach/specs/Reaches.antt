@@ -1,5 +1,5 @@
 -- What a quick instruction ensures that reads or writes more than the stacks. Assumes nothing.
-use Rattle.std.specs.Prelude.{◌≡◌, ℕ, ◌+◌, ◌<◌, List, length, slice_index, Option, Some, None}
+use Rattle.std.specs.Prelude.{◌≡◌, ℕ, ◌+◌, ◌<◌, List, length, slice_index, refl, Option, Some, None}
 use Rattle.std.proofs.Common.{ap, subst, ◌∙◌}
 use Rattle.machine.specs.State as St
 use Rattle.machine.specs.Program.{Program}
@@ -31,6 +31,18 @@ use Rattle.quick.specs.Quickly.{Quickly, Inside, first}
 abbrev pub quick_in : Option (Depths × ℕ) → (Option Depths)
 quick_in (Some (e, j)) = Some e
 quick_in None = None
+
+-- with a row, or with how much text there is
+abbrev pub counted : ℕ → Option Depths → (Option (Depths × ℕ))
+counted n (Some e) = Some (e, n)
+counted n None = None
+
+pub counted_quick : (n : ℕ) {q : Option Depths} {r : Option (Depths × ℕ)} → r ≡ counted n q → quick_in r ≡ q
+counted_quick n {q} e = ap quick_in e ∙ go q
+  where
+    go : (q : Option Depths) → quick_in (counted n q) ≡ q
+    go (Some d) = refl
+    go None = refl
 
 -- where D holds, whatever the state is
 abbrev pub Sure : Type 0 → (St.State → Type 0) → St.State → Type 0

@@ -16,21 +16,20 @@ ghost use Rattle.reach.specs.Names.{RowIs};
 ghost use Rattle.reach.specs.Elements.{Accesses, FindsElement, IndexIs, IsBelow, PutsAlone};
 
 use crate::names::find_property;
-use heap::{ObjectType, PROPERTIES_AT};
+use heap::{Heap, ObjectType, PROPERTIES_AT};
 use heapops::Counts;
 use number::JsNumber;
 use number::format::LONGEST_TEXT;
 use stacks::Depths;
 use std::num::{wrapping_add_usize, wrapping_sub_usize};
+use texts::in_use;
+use value::Words;
 
 fn access_at(stacks: &[u64], k: usize) -> Option<(u64, u64)>
     requires { k + 5 < length stacks.now }
     ensures { Accesses stacks.now k result }
 {
-    if stacks[k] != 6 {
-        return None;
-    }
-    if stacks[k + 3] != 3 {
+    if stacks[k] != Words::OBJECT || stacks[k + 3] != Words::NUMBER {
         return None;
     }
     Some((stacks[k + 1], stacks[k + 4]))
@@ -49,18 +48,10 @@ fn guess_by(row: usize, v: u64) -> usize {
 fn index_of(v: u64) -> Option<u64>
     ensures { IndexIs v result }
 {
-    if v < 0x8000_0000_0000_0000 {
-        if v % 0x1_0000_0000 == 0 {
-            return Some(v / 0x1_0000_0000);
-        }
+    if v < 0x8000_0000_0000_0000 && v % 0x1_0000_0000 == 0 {
+        return Some(v / 0x1_0000_0000);
     }
     None
-}
-
-fn wide(b: u8) -> u64
-    ensures { result ≡ b }
-{
-    b as u64
 }
 
 // Are the bytes the digits of n? The last is the lowest.
@@ -74,21 +65,21 @@ fn are_digits(s: &[u8], n: u64) -> bool
             return false;
         }
         i -= 1;
-        if wide(s[i]) != 48 + m % 10 {
+        if u64::from(s[i]) != 48 + m % 10 {
             return false;
         }
-        m = m / 10;
+        m /= 10;
     }
     if i != 1 {
         return false;
     }
-    wide(s[0]) == 48 + m
+    u64::from(s[0]) == 48 + m
 }
 
 // Is a number's text the key of the row at place k? Nothing is written for it; but where the number is not whole, it is not told.
-fn row_is_element(text: &[u8], m: usize, heap: &[u64], k: usize, id: u64, v: u64) -> bool
-    requires { (m ≤ length text.now) × (k + 5 < length heap.now) }
-    ensures { result ≡ true → RowIs text.now m heap.now k id (format_js_number v) }
+fn row_is_element(text: &[u8], heap: &[u64], k: usize, id: u64, v: u64) -> bool
+    requires { k + 5 < length heap.now }
+    ensures { result ≡ true → RowIs text.now heap.now k id (format_js_number v) }
 {
     let Some(n) = index_of(v) else {
         return false;
@@ -96,66 +87,53 @@ fn row_is_element(text: &[u8], m: usize, heap: &[u64], k: usize, id: u64, v: u64
     if heap[k] != id {
         return false;
     }
-    let p = texts::locate(heap[k + 1], heap[k + 2], m);
-    let from = p.from;
-    let to = p.to;
-    are_digits(&text[from..to], n)
+    are_digits(texts::cut(text, heap[k + 1], heap[k + 2]), n)
 }
 
-// The row whose key is a number's text. This and `is_element` are two functions, so that the test of the guess is compiled into the callers.
-fn search_element(
-    text: &[u8],
-    m: usize,
-    heap: &[u64],
-    count: usize,
-    id: u64,
-    v: u64,
-) -> Option<usize>
-    requires { (m ≤ length text.now) × (count ≤ property_limit) × (length heap.now ≡ heap_words) }
-    ensures { FindsElement text.now m heap.now count id v result }
+// The row whose key is a number's text.
+#[inline(never)]
+fn search_element(text: &[u8], heap: &[u64], count: usize, id: u64, v: u64) -> Option<usize>
+    requires { (count ≤ property_limit) × (length heap.now ≡ heap_words) }
+    ensures { FindsElement text.now heap.now count id v result }
 {
     let mut buffer = [0; LONGEST_TEXT];
     let size = JsNumber::raw(v).format_js_number(&mut buffer);
-    heap::find_property(text, m, heap, count, id, &buffer[0..size])
+    heap::find_property(text, heap, count, id, &buffer[..size])
 }
 
-// Is it the row that was guessed?
-fn is_element(
+// The same row, guessed by that of the last element, or else searched. The test of the guess is compiled into the callers, and the search stands apart.
+#[inline(always)]
+fn find_element(
     text: &[u8],
-    m: usize,
-    heap: &[u64],
-    count: usize,
-    id: u64,
-    v: u64,
-    row: usize,
-) -> bool
-    requires { (m ≤ length text.now) × (count ≤ property_limit) × (length heap.now ≡ heap_words) }
-    ensures { result ≡ true → FindsElement text.now m heap.now count id v (Some row) }
-{
-    if row < count {
-        return row_is_element(text, m, heap, PROPERTIES_AT + 6 * row, id, v);
-    }
-    false
-}
-
-fn below_length(
-    text: &[u8],
-    m: usize,
     heap: &[u64],
     count: usize,
     id: u64,
     v: u64,
     guess: usize,
 ) -> Option<usize>
-    requires { (m ≤ length text.now) × (count ≤ property_limit) × (length heap.now ≡ heap_words) }
-    ensures { IsBelow text.now m heap.now count id v result }
+    requires { (count ≤ property_limit) × (length heap.now ≡ heap_words) }
+    ensures { FindsElement text.now heap.now count id v result }
 {
-    let Some(e) = index_of(v) else {
-        return None;
-    };
-    let Some(p) = find_property(text, m, heap, count, id, b"length", guess) else {
-        return None;
-    };
+    let row = row_by(guess, v);
+    if row < count && row_is_element(text, heap, PROPERTIES_AT + 6 * row, id, v) {
+        return Some(row);
+    }
+    search_element(text, heap, count, id, v)
+}
+
+fn below_length(
+    text: &[u8],
+    heap: &[u64],
+    count: usize,
+    id: u64,
+    v: u64,
+    guess: usize,
+) -> Option<usize>
+    requires { (count ≤ property_limit) × (length heap.now ≡ heap_words) }
+    ensures { IsBelow text.now heap.now count id v result }
+{
+    let e = index_of(v)?;
+    let p = find_property(text, heap, count, id, b"length", guess)?;
     if e < convert::length_floor(value::read(heap, PROPERTIES_AT + 6 * p + 3)) {
         return Some(p);
     }
@@ -166,20 +144,18 @@ fn below_length(
 fn puts_alone(
     kind: ObjectType,
     text: &[u8],
-    m: usize,
     heap: &[u64],
     count: usize,
     id: u64,
     v: u64,
     guess: usize,
 ) -> Option<usize>
-    requires { (m ≤ length text.now) × (count ≤ property_limit) × (length heap.now ≡ heap_words) }
-    ensures { PutsAlone kind text.now m heap.now count id v result }
+    requires { (count ≤ property_limit) × (length heap.now ≡ heap_words) }
+    ensures { PutsAlone kind text.now heap.now count id v result }
 {
     match kind {
-        ObjectType::NoObject => None,
         ObjectType::Ordinary => Some(0),
-        ObjectType::Array => below_length(text, m, heap, count, id, v, guess),
+        ObjectType::Array => below_length(text, heap, count, id, v, guess),
     }
 }
 
@@ -203,21 +179,11 @@ pub fn load_index(
         return None;
     }
     let k = 3 * (n - 2);
-    let Some((id, v)) = access_at(stacks, k) else {
-        return None;
-    };
+    let (id, v) = access_at(stacks, k)?;
     if c.sizes.objects as u64 <= id {
         return None;
     }
-    let m = c.text;
-    let count = c.sizes.properties;
-    let mut row = row_by(guess, v);
-    if !is_element(text, m, heap, count, id, v, row) {
-        let Some(j) = search_element(text, m, heap, count, id, v) else {
-            return None;
-        };
-        row = j;
-    }
+    let row = find_element(in_use(text, c.text), heap, c.sizes.properties, id, v, guess)?;
     value::bring(stacks, k, heap, PROPERTIES_AT + 6 * row + 3);
     Some((d.with_operands(n - 1), guess_by(row, v)))
 }
@@ -242,22 +208,12 @@ pub fn store_index(
         return None;
     }
     let k = 3 * (n - 3);
-    let Some((id, v)) = access_at(stacks, k) else {
-        return None;
-    };
-    let m = c.text;
+    let (id, v) = access_at(stacks, k)?;
+    let t = in_use(text, c.text);
     let count = c.sizes.properties;
-    let kind = heap::object_type(c.sizes, heap, id);
-    let Some(p) = puts_alone(kind, text, m, heap, count, id, v, guess >> 16) else {
-        return None;
-    };
-    let mut row = row_by(guess, v);
-    if !is_element(text, m, heap, count, id, v, row) {
-        let Some(j) = search_element(text, m, heap, count, id, v) else {
-            return None;
-        };
-        row = j;
-    }
+    let kind = Heap::new(c.sizes, heap).object_type(id)?;
+    let p = puts_alone(kind, t, heap, count, id, v, guess >> 16)?;
+    let row = find_element(t, heap, count, id, v, guess)?;
     value::bring(heap, PROPERTIES_AT + 6 * row + 3, stacks, k + 6);
     Some((d.with_operands(n - 3), guess_by(row, v) | (p << 16)))
 }

@@ -11,46 +11,22 @@ ghost use Rattle.readops.specs.Holds.{Callable};
 ghost use Rattle.heapops.specs.Turns.{mem, Loaded};
 ghost use Rattle.finish.specs.Parts.{Ground, tables};
 ghost use Rattle.quick.specs.Quickly.{Quickly, Inside};
-ghost use Rattle.reach.specs.Leaps.{Leaps, LeapStep, leap_of};
+ghost use Rattle.reach.specs.Leaps.{Leaps, LeapStep};
 
+use crate::with_count;
 use fetch::Running;
+use heap::Heap;
 use heapops::{Counts, with_depths};
 use quick::{byte_at, control, settle};
+use readops::constants::is_text;
 use stacks::Depths;
 use texts::spell;
 use value::Value;
 
-fn leapt(q: Option<Depths>, m: usize) -> Option<(Depths, usize)>
-    ensures { result ≡ leap_of m q }
-{
-    match q {
-        Some(d) => Some((d, m)),
-        None => None,
-    }
-}
-
-fn is_text(v: Value) -> bool
-    ensures { result ≡ is_text (value_of v) }
-{
-    match v {
-        Value::Undefined => false,
-        Value::Null => false,
-        Value::Boolean(_) => false,
-        Value::Number(_) => false,
-        Value::CodeText(_, _) => true,
-        Value::MadeText(_, _) => true,
-        Value::Object(_) => false,
-        Value::Function(_) => false,
-    }
-}
-
 fn has_text(a: Value, b: Value) -> bool
     ensures { result ≡ is_text (value_of a) || is_text (value_of b) }
 {
-    if is_text(a) {
-        return true;
-    }
-    is_text(b)
+    is_text(a) || is_text(b)
 }
 
 // Add where an operand is a text.
@@ -70,9 +46,7 @@ pub fn join(c: Counts, code: &[u8], stacks: &mut [u64], text: &mut [u8]) -> Opti
     let b = value::read(stacks, k + 3);
     if has_text(a, b) {
         let m = c.text;
-        let Some(e) = spell::keep_joined(code, c.code, text, m, a, b) else {
-            return None;
-        };
+        let e = spell::keep_joined(code, c.code, text, m, a, b)?;
         value::write(
             stacks,
             k,
@@ -113,9 +87,8 @@ fn call(
     let Value::Function(id) = value::read(stacks, 3 * k) else {
         return None;
     };
-    let Some((i, t)) = heap::function(c.sizes, heap, id) else {
-        return None;
-    };
+    let callee = Heap::new(c.sizes, heap).function(id)?;
+    let (i, t) = (callee.image, callee.template);
     let s = image::template_at(rows, starts, c.images, i as usize, t as usize);
     let f = e.with_operands(k);
     settle(f.call_frame(stacks, i, t, argc, s.param_count, s.local_count))
@@ -142,9 +115,9 @@ fn execute(
 {
     match op {
         10 => join(c, code, stacks, text),
-        50 => leapt(call(x, c, code, rows, starts, stacks, heap), c.text),
-        51 => leapt(control::return_value(c.depths, stacks), c.text),
-        74 => leapt(control::throw_far(c.depths, stacks), c.text),
+        50 => with_count(call(x, c, code, rows, starts, stacks, heap), c.text),
+        51 => with_count(control::return_value(c.depths, stacks), c.text),
+        74 => with_count(control::throw_far(c.depths, stacks), c.text),
         _ => None,
     }
 }

@@ -19,20 +19,18 @@ ghost use Rattle.finish.specs.Parts.{Ground, tables};
 ghost use Rattle.quick.specs.Quickly.{Inside, Operand};
 ghost use Rattle.quick.specs.Stays.{Stays, InFrame};
 ghost use Rattle.reach.specs.Distinct.{Distinct};
-ghost use Rattle.reach.specs.Reaches.{Reaches, ReachStep, quick_in, Sure};
+ghost use Rattle.reach.specs.Reaches.{Reaches, ReachStep, counted, quick_in, Sure};
 
 use fetch::Running;
 use heapops::{Counts, with_depths};
 use quick::{Here, byte_at, word_at};
 use stacks::Depths;
 
-pub fn by_row(q: Option<Depths>, row: usize) -> Option<(Depths, usize)>
-    ensures { quick_in result ≡ q }
+// With the row that was found, or with how much text there is now.
+pub fn with_count(q: Option<Depths>, n: usize) -> Option<(Depths, usize)>
+    ensures { result ≡ counted n q }
 {
-    match q {
-        Some(d) => Some((d, row)),
-        None => None,
-    }
+    Some((q?, n))
 }
 
 // x is the template of the newest frame; i is the operand that follows the opcode, if it has one.

@@ -10,13 +10,14 @@ ghost use Rattle.quick.specs.Stays.{Stays};
 ghost use Rattle.reach.specs.Distinct.{Distinct};
 ghost use Rattle.reach.specs.Reaches.{quick_in, Sure};
 
-use crate::by_row;
-use crate::names::{global_named, name_at, property_named};
+use crate::names::{find_global, find_property, name_at};
+use crate::with_count;
 use fetch::Running;
 use heap::{GLOBALS_AT, PROPERTIES_AT};
 use heapops::Counts;
 use quick::push_from;
 use stacks::Depths;
+use texts::{cut, in_use};
 use value::Value;
 
 // `guess` is a row that may have the name; the row that has it is answered. So it is for every function here.
@@ -42,23 +43,10 @@ pub fn load_global(
 {
     let d = c.depths;
     let e = d.with_ip(d.ip + 2);
-    let Some((at, size)) = name_at(x, i, code, places) else {
-        return None;
-    };
-    let Some(j) = global_named(
-        at,
-        size,
-        code,
-        c.code,
-        text,
-        c.text,
-        heap,
-        c.sizes.globals,
-        guess,
-    ) else {
-        return None;
-    };
-    by_row(push_from(e, stacks, heap, GLOBALS_AT + 6 * j + 3), j)
+    let (at, size) = name_at(x, i, code, places)?;
+    let name = cut(in_use(code, c.code), at, size);
+    let j = find_global(in_use(text, c.text), heap, c.sizes.globals, name, guess)?;
+    with_count(push_from(e, stacks, heap, GLOBALS_AT + 6 * j + 3), j)
 }
 
 pub fn load_property(
@@ -93,23 +81,16 @@ pub fn load_property(
     if c.sizes.objects as u64 <= id {
         return None;
     }
-    let Some((at, size)) = name_at(x, i, code, places) else {
-        return None;
-    };
-    let Some(j) = property_named(
-        at,
-        size,
-        code,
-        c.code,
-        text,
-        c.text,
+    let (at, size) = name_at(x, i, code, places)?;
+    let key = cut(in_use(code, c.code), at, size);
+    let j = find_property(
+        in_use(text, c.text),
         heap,
         c.sizes.properties,
         id,
+        key,
         guess,
-    ) else {
-        return None;
-    };
+    )?;
     let f = e.with_operands(n - 1);
-    by_row(push_from(f, stacks, heap, PROPERTIES_AT + 6 * j + 3), j)
+    with_count(push_from(f, stacks, heap, PROPERTIES_AT + 6 * j + 3), j)
 }

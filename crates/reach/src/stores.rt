@@ -12,11 +12,12 @@ ghost use Rattle.quick.specs.Stays.{Stays};
 ghost use Rattle.reach.specs.Distinct.{Distinct};
 ghost use Rattle.reach.specs.Reaches.{Reaches, quick_in, Sure};
 
-use crate::names::{global_named, name_at, property_named};
+use crate::names::{find_global, find_property, name_at};
 use fetch::Running;
-use heap::{GLOBALS_AT, ObjectType, PROPERTIES_AT};
+use heap::{GLOBALS_AT, Heap, ObjectType, PROPERTIES_AT};
 use heapops::Counts;
 use stacks::Depths;
+use texts::{cut, in_use};
 use value::Value;
 
 pub fn store_global(
@@ -45,22 +46,9 @@ pub fn store_global(
     if k == 0 {
         return None;
     }
-    let Some((at, size)) = name_at(x, i, code, places) else {
-        return None;
-    };
-    let Some(j) = global_named(
-        at,
-        size,
-        code,
-        c.code,
-        text,
-        c.text,
-        heap,
-        c.sizes.globals,
-        guess,
-    ) else {
-        return None;
-    };
+    let (at, size) = name_at(x, i, code, places)?;
+    let name = cut(in_use(code, c.code), at, size);
+    let j = find_global(in_use(text, c.text), heap, c.sizes.globals, name, guess)?;
     value::bring(heap, GLOBALS_AT + 6 * j + 3, stacks, 3 * (k - 1));
     Some((e.with_operands(k - 1), j))
 }
@@ -95,26 +83,19 @@ pub fn store_property(
     let Value::Object(id) = value::read(stacks, 3 * (k - 2)) else {
         return None;
     };
-    let ObjectType::Ordinary = heap::object_type(c.sizes, heap, id) else {
+    let Some(ObjectType::Ordinary) = Heap::new(c.sizes, heap).object_type(id) else {
         return None;
     };
-    let Some((at, size)) = name_at(x, i, code, places) else {
-        return None;
-    };
-    let Some(j) = property_named(
-        at,
-        size,
-        code,
-        c.code,
-        text,
-        c.text,
+    let (at, size) = name_at(x, i, code, places)?;
+    let key = cut(in_use(code, c.code), at, size);
+    let j = find_property(
+        in_use(text, c.text),
         heap,
         c.sizes.properties,
         id,
+        key,
         guess,
-    ) else {
-        return None;
-    };
+    )?;
     value::bring(heap, PROPERTIES_AT + 6 * j + 3, stacks, 3 * (k - 1));
     Some((e.with_operands(k - 2), j))
 }

@@ -1,13 +1,6 @@
-use Rattle.std.specs.Prelude.{Some}
 use Rattle.std.proofs.Common.{refl, arith}
-use Rattle.reach.specs.Elements.{element_at, index_loads}
-use Rattle.reach.specs.Elements.{FindsElement}
+use Rattle.reach.specs.Elements.{index_loads}
 use Rattle.reach.proofs.elements.load_index.Goals as goal
-use Rattle.reach.proofs.elements.load_index.Goals.{then-not-is_element+in-Some-search_element, else-not-is_element}
-use Rattle.reach.specs.Elements.{FindsElement}
 
 pub returns-clause-quickly : goal.returns-clause-quickly
-returns-clause-quickly c =
-    let e : FindsElement c.args.text.now c.args.c.text c.args.heap.now c.args.c.sizes.properties c.in-Some.id c.in-Some.v (Some c.if-not-is_element.row) =
-    elim c.if-not-is_element.branch [ then-not-is_element+in-Some-search_element w ↦ element_at w.search_element.ensures w.in-Some-search_element.is w.row-is | else-not-is_element w ↦ element_at (c.is_element.ensures w.if-not-is_element.false) refl w.row-is ] in
-    (index_loads c.args.c.sizes c.requires.ready (omega (arith, c.if-n-lt2.false)) refl c.access_at.ensures c.in-Some.is (omega (arith, c.if-c-id.false)) e refl c.bring.ensures c.bring.auto.w c.with_operands.ensures c.args.c.code).0
+returns-clause-quickly c = (index_loads c.args.c.sizes c.args.c.text c.args.text.now c.requires.ready (omega (arith, c.if-n-lt2.false)) refl c.in_ok-id.ensures (omega (arith, c.if-c-id.false)) c.in_use.ensures c.in_ok-row.ensures c.bring.ensures c.bring.auto.w c.with_operands.ensures c.args.c.code).0
