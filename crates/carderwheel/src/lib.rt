@@ -12,7 +12,7 @@ ghost use Rattle.answers.specs.Flat.{Tells, TellsValue, TellsRun, TellsClear, nu
 
 use answers::{Answer, RunTold, ValueAnswer, answered, changed, ran, wrote};
 use heapops::Counts;
-use host::Given;
+use host::{Given, Images, Memory};
 use value::Words;
 
 mod opcode;
@@ -51,9 +51,13 @@ pub extern "C" fn carderwheel_load_in(
 ) -> Answer
     ensures { Tells (Host.load image.now) counts (tables code.old places.old rows.old starts.old) (mem stacks.now heap.now text.now output.now) (numbered_by result) result (tables code.new places.new rows.new starts.new) (mem stacks.now heap.now text.now output.now) }
 {
-    let x = engine::images::load(
-        code, places, rows, starts, stacks, heap, text, output, counts, image,
-    );
+    let memory = Memory {
+        stacks,
+        heap,
+        text,
+        output,
+    };
+    let x = engine::images::load(code, places, rows, starts, memory, counts, image);
     answered(counts, x)
 }
 
@@ -73,8 +77,14 @@ pub extern "C" fn carderwheel_register_in(
 ) -> Answer
     ensures { Tells (Host.register image template) counts (tables code.now places.now rows.now starts.now) (mem stacks.now heap.old text.now output.now) (numbered_by result) result (tables code.now places.now rows.now starts.now) (mem stacks.now heap.new text.now output.now) }
 {
+    let images = Images {
+        code,
+        places,
+        rows,
+        starts,
+    };
     let x = engine::images::register(
-        code, places, rows, starts, stacks, heap, text, output, counts, image, template,
+        images, stacks, heap, text, output, counts, image, template,
     );
     answered(counts, x)
 }
@@ -95,10 +105,14 @@ pub extern "C" fn carderwheel_set_global_in(
 ) -> Answer
     ensures { Tells (Host.set_global name.now (plain (value_by value))) counts (tables code.now places.now rows.now starts.now) (mem stacks.now heap.old text.old output.now) (changed_by result) result (tables code.now places.now rows.now starts.now) (mem stacks.now heap.new text.new output.now) }
 {
+    let images = Images {
+        code,
+        places,
+        rows,
+        starts,
+    };
     let given = Given::from(value);
-    let x = globals::set_global(
-        code, places, rows, starts, stacks, heap, text, output, counts, name, given,
-    );
+    let x = globals::set_global(images, stacks, heap, text, output, counts, name, given);
     changed(counts, x)
 }
 
@@ -118,10 +132,14 @@ pub extern "C" fn carderwheel_set_global_text_in(
 ) -> Answer
     ensures { Tells (Host.set_global name.now (as_bytes given.now)) counts (tables code.now places.now rows.now starts.now) (mem stacks.now heap.old text.old output.now) (changed_by result) result (tables code.now places.now rows.now starts.now) (mem stacks.now heap.new text.new output.now) }
 {
+    let images = Images {
+        code,
+        places,
+        rows,
+        starts,
+    };
     let given = Given::from(given);
-    let x = globals::set_global(
-        code, places, rows, starts, stacks, heap, text, output, counts, name, given,
-    );
+    let x = globals::set_global(images, stacks, heap, text, output, counts, name, given);
     changed(counts, x)
 }
 
@@ -140,9 +158,19 @@ pub extern "C" fn carderwheel_read_global_in(
 ) -> ValueAnswer
     ensures { TellsValue (Host.read_global name.now) counts (tables code.now places.now rows.now starts.now) (mem stacks.now heap.now text.now output.now) result }
 {
-    ValueAnswer::from(globals::read_global(
-        code, places, rows, starts, stacks, heap, text, output, counts, name,
-    ))
+    let images = Images {
+        code,
+        places,
+        rows,
+        starts,
+    };
+    let memory = Memory {
+        stacks,
+        heap,
+        text,
+        output,
+    };
+    ValueAnswer::from(globals::read_global(images, memory, counts, name))
 }
 
 #[unsafe(no_mangle)]
@@ -160,9 +188,13 @@ pub extern "C" fn carderwheel_run_in(
 ) -> RunTold
     ensures { TellsRun (Host.run image) counts (tables code.now places.now rows.now starts.now) (mem stacks.old heap.old text.old output.old) result (mem stacks.new heap.new text.new output.new) }
 {
-    let x = engine::runs::run(
-        code, places, rows, starts, stacks, heap, text, output, counts, image,
-    );
+    let images = Images {
+        code,
+        places,
+        rows,
+        starts,
+    };
+    let x = engine::runs::run(images, stacks, heap, text, output, counts, image);
     ran(counts, x)
 }
 
@@ -183,10 +215,19 @@ pub extern "C" fn carderwheel_text_in<'a>(
     ensures tells { Tells (Host.text (plain (value_by value)) (length buffer.old)) counts (tables code.now places.now rows.now starts.now) (mem stacks.now heap.now text.now output.now) (wrote_by result buffer.new) result (tables code.now places.now rows.now starts.now) (mem stacks.now heap.now text.now output.now) }
     ensures buffered { Buffered (wrote_by result buffer.new) buffer.old buffer.new }
 {
-    let given = Given::from(value);
-    let x = buffers::text_of(
-        code, places, rows, starts, stacks, heap, text, output, counts, given, buffer,
-    );
+    let images = Images {
+        code,
+        places,
+        rows,
+        starts,
+    };
+    let memory = Memory {
+        stacks,
+        heap,
+        text,
+        output,
+    };
+    let x = buffers::text_of(images, memory, counts, Given::from(value), buffer);
     wrote(counts, x)
 }
 
@@ -207,10 +248,19 @@ pub extern "C" fn carderwheel_text_bytes_in(
     ensures tells { Tells (Host.text (as_bytes given.now) (length buffer.old)) counts (tables code.now places.now rows.now starts.now) (mem stacks.now heap.now text.now output.now) (wrote_by result buffer.new) result (tables code.now places.now rows.now starts.now) (mem stacks.now heap.now text.now output.now) }
     ensures buffered { Buffered (wrote_by result buffer.new) buffer.old buffer.new }
 {
-    let given = Given::from(given);
-    let x = buffers::text_of(
-        code, places, rows, starts, stacks, heap, text, output, counts, given, buffer,
-    );
+    let images = Images {
+        code,
+        places,
+        rows,
+        starts,
+    };
+    let memory = Memory {
+        stacks,
+        heap,
+        text,
+        output,
+    };
+    let x = buffers::text_of(images, memory, counts, Given::from(given), buffer);
     wrote(counts, x)
 }
 
@@ -230,8 +280,18 @@ pub extern "C" fn carderwheel_drain_in(
     ensures tells { Tells (Host.drain (length buffer.old)) counts (tables code.now places.now rows.now starts.now) (mem stacks.now heap.now text.now output.now) (wrote_by result buffer.new) result (tables code.now places.now rows.now starts.now) (mem stacks.now heap.now text.now output.now) }
     ensures buffered { Buffered (wrote_by result buffer.new) buffer.old buffer.new }
 {
-    let x = buffers::drain(
-        code, places, rows, starts, stacks, heap, text, output, counts, buffer,
-    );
+    let images = Images {
+        code,
+        places,
+        rows,
+        starts,
+    };
+    let memory = Memory {
+        stacks,
+        heap,
+        text,
+        output,
+    };
+    let x = buffers::drain(images, memory, counts, buffer);
     answered(counts, x)
 }

@@ -3,9 +3,10 @@ ghost use Rattle.machine.specs.Host as Host;
 ghost use Rattle.heapops.specs.Turns.{mem};
 ghost use Rattle.finish.specs.Parts.{tables};
 ghost use Rattle.host.specs.Calls.{Called, answer_of_numbered, counts_of_numbered};
+ghost use Rattle.host.specs.Stores.{tables_of, mem_of};
 
 use heapops::Counts;
-use host::{Refusal, questions};
+use host::{Images, Memory, Refusal, questions};
 use image::ImageCounts;
 
 pub fn load(
@@ -13,16 +14,19 @@ pub fn load(
     places: &mut [u16],
     rows: &mut [u16],
     starts: &mut [u16],
-    stacks: &[u64],
-    heap: &[u64],
-    text: &[u8],
-    output: &[u8],
+    memory: Memory,
     c: Counts,
     image: &[u8],
 ) -> Result<(usize, Counts), Refusal>
-    ensures { Called (Host.load image.now) c (tables code.old places.old rows.old starts.old) (mem stacks.now heap.now text.now output.now) (answer_of_numbered result) (counts_of_numbered c result) (tables code.new places.new rows.new starts.new) (mem stacks.now heap.now text.now output.now) }
+    ensures { Called (Host.load image.now) c (tables code.old places.old rows.old starts.old) (mem_of memory.entry) (answer_of_numbered result) (counts_of_numbered c result) (tables code.new places.new rows.new starts.new) (mem_of memory.entry) }
 {
-    questions::lent(code, places, rows, starts, stacks, heap, text, output, c)?;
+    let images = Images {
+        code,
+        places,
+        rows,
+        starts,
+    };
+    questions::lent(images, memory, c)?;
     let held = ImageCounts {
         code: c.code,
         images: c.images,
@@ -37,10 +41,7 @@ pub fn load(
 }
 
 pub fn register(
-    code: &[u8],
-    places: &[u16],
-    rows: &[u16],
-    starts: &[u16],
+    images: Images,
     stacks: &[u64],
     heap: &mut [u64],
     text: &[u8],
@@ -49,11 +50,17 @@ pub fn register(
     image: usize,
     template: usize,
 ) -> Result<(usize, Counts), Refusal>
-    ensures { Called (Host.register image template) c (tables code.now places.now rows.now starts.now) (mem stacks.now heap.old text.now output.now) (answer_of_numbered result) (counts_of_numbered c result) (tables code.now places.now rows.now starts.now) (mem stacks.now heap.new text.now output.now) }
+    ensures { Called (Host.register image template) c (tables_of images.entry) (mem stacks.now heap.old text.now output.now) (answer_of_numbered result) (counts_of_numbered c result) (tables_of images.entry) (mem stacks.now heap.new text.now output.now) }
 {
-    questions::lent(code, places, rows, starts, stacks, heap, text, output, c)?;
-    questions::loaded(c, image)?;
-    questions::template(rows, starts, c, image, template)?;
+    let memory = Memory {
+        stacks,
+        heap,
+        text,
+        output,
+    };
+    questions::lent(images, memory, c)?;
+    questions::loaded(images, c, image)?;
+    questions::template(images, c, image, template)?;
     let sizes = heap::add_function(c.sizes, heap, image as u64, template as u64)?;
     Ok((c.sizes.functions, Counts { sizes, ..c }))
 }

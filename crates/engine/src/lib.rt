@@ -7,7 +7,7 @@ ghost use Rattle.finish.specs.Parts.{tables};
 ghost use Rattle.host.specs.Calls.{Clears};
 
 use heapops::Counts;
-use host::{Refusal, questions};
+use host::{Images, Memory, Refusal, questions};
 
 pub mod images;
 pub mod runs;
@@ -24,6 +24,18 @@ pub fn clear(
 ) -> Result<Counts, Refusal>
     ensures { Clears (tables code.old places.old rows.old starts.old) (mem stacks.old heap.old text.old output.old) result (tables code.new places.new rows.new starts.new) (mem stacks.new heap.new text.new output.new) }
 {
-    questions::sizes(code, places, rows, starts, stacks, heap, text, output)?;
+    let images = Images {
+        code,
+        places,
+        rows,
+        starts,
+    };
+    let memory = Memory {
+        stacks,
+        heap,
+        text,
+        output,
+    };
+    questions::sizes(images, memory)?;
     Ok(Counts::fresh(heap::clear(heap)))
 }

@@ -8,13 +8,13 @@ ghost use Rattle.texts.specs.Keeps.{text_limit};
 ghost use Rattle.heap.specs.View.{Sized};
 ghost use Rattle.objects.specs.View.{Puts};
 ghost use Rattle.heapops.specs.Turns.{mem};
-ghost use Rattle.finish.specs.Parts.{tables};
 ghost use Rattle.host.specs.Calls.{Called, answer_of_changed, counts_of_changed, answer_of_read};
 ghost use Rattle.host.specs.Givens.{given_of};
+ghost use Rattle.host.specs.Stores.{tables_of, mem_of};
 
 use heap::Sizes;
 use heapops::Counts;
-use host::{Given, Refusal, questions};
+use host::{Given, Images, Memory, Refusal, questions};
 use texts::Source;
 use value::{Space, Value};
 
@@ -43,10 +43,7 @@ fn put(
 }
 
 pub fn set_global(
-    code: &[u8],
-    places: &[u16],
-    rows: &[u16],
-    starts: &[u16],
+    images: Images,
     stacks: &[u64],
     heap: &mut [u64],
     text: &mut [u8],
@@ -55,13 +52,21 @@ pub fn set_global(
     name: &[u8],
     given: Given,
 ) -> Result<Counts, Refusal>
-    ensures { Called (Host.set_global name.now (given_of given.entry)) c (tables code.now places.now rows.now starts.now) (mem stacks.now heap.old text.old output.now) (answer_of_changed result) (counts_of_changed c result) (tables code.now places.now rows.now starts.now) (mem stacks.now heap.new text.new output.now) }
+    ensures { Called (Host.set_global name.now (given_of given.entry)) c (tables_of images.entry) (mem stacks.now heap.old text.old output.now) (answer_of_changed result) (counts_of_changed c result) (tables_of images.entry) (mem stacks.now heap.new text.new output.now) }
 {
-    questions::lent(code, places, rows, starts, stacks, heap, text, output, c)?;
+    let memory = Memory {
+        stacks,
+        heap,
+        text,
+        output,
+    };
+    questions::lent(images, memory, c)?;
     questions::ascii(name)?;
     given.ascii()?;
-    given.handle(code, c.code, text, c.text)?;
-    let (sizes, used) = put(c.sizes, heap, code, c.code, text, c.text, name, given)?;
+    given.handle(images.code, c.code, text, c.text)?;
+    let (sizes, used) = put(
+        c.sizes, heap, images.code, c.code, text, c.text, name, given,
+    )?;
     Ok(Counts {
         sizes,
         text: used,
@@ -70,20 +75,14 @@ pub fn set_global(
 }
 
 pub fn read_global(
-    code: &[u8],
-    places: &[u16],
-    rows: &[u16],
-    starts: &[u16],
-    stacks: &[u64],
-    heap: &[u64],
-    text: &[u8],
-    output: &[u8],
+    images: Images,
+    memory: Memory,
     c: Counts,
     name: &[u8],
 ) -> Result<Value, Refusal>
-    ensures { Called (Host.read_global name.now) c (tables code.now places.now rows.now starts.now) (mem stacks.now heap.now text.now output.now) (answer_of_read result) c (tables code.now places.now rows.now starts.now) (mem stacks.now heap.now text.now output.now) }
+    ensures { Called (Host.read_global name.now) c (tables_of images.entry) (mem_of memory.entry) (answer_of_read result) c (tables_of images.entry) (mem_of memory.entry) }
 {
-    questions::lent(code, places, rows, starts, stacks, heap, text, output, c)?;
+    questions::lent(images, memory, c)?;
     questions::ascii(name)?;
-    Ok(heap::global(text, c.text, heap, c.sizes.globals, name))
+    Ok(heap::global(memory.text, c.text, memory.heap, c.sizes.globals, name))
 }

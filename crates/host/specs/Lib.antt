@@ -4,3 +4,4 @@ pub mod Inside
 pub mod Lent
 pub mod Performs
 pub mod Refusals
+pub mod Stores

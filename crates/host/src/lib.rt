@@ -4,6 +4,8 @@
 mod given;
 pub mod questions;
 mod refusal;
+mod stores;
 
 pub use given::Given;
 pub use refusal::Refusal;
+pub use stores::{Images, Memory};

@@ -1,42 +1,31 @@
 //! The questions that are asked before a call acts: 33, then 10 and 32, or 29 and 30.
-ghost use Rattle.std.specs.Prelude.{◌≡◌, false, ◌&&◌, List, [], ℕ, ◌+◌, ◌≤◌, ◌<◌, leb, ltb, length, take, drop, get_or, MatchOption, MatchResult};
+ghost use Rattle.std.specs.Prelude.{◌≡◌, false, ◌&&◌, [], ◌+◌, ◌≤◌, ◌<◌, leb, ltb, length, take, drop, get_or, MatchOption, MatchResult};
 ghost use Rattle.machine.specs.Basic.{is_ascii};
 ghost use Rattle.machine.specs.Host as Host;
 ghost use Rattle.value.specs.Words.{value_of};
 ghost use Rattle.texts.specs.Sources.{InUse, stores_of};
-ghost use Rattle.image.specs.View.{images_of};
-ghost use Rattle.heapops.specs.Turns.{mem};
-ghost use Rattle.finish.specs.Parts.{Tables, tables};
 ghost use Rattle.host.specs.declared.refusal.Refusal.TheVariants.{StoreSizes, NotAscii, Handle, NoImage, NoTemplate};
 ghost use Rattle.host.specs.Calls.{sizes_right, counts_right, lent as are_lent};
 ghost use Rattle.host.specs.Lent.{Lent};
 ghost use Rattle.host.specs.Inside.{inside_of};
 ghost use Rattle.host.specs.Refusals.{Asks};
+ghost use Rattle.host.specs.Stores.{tables_of, mem_of, images_in};
 
-use crate::Refusal;
+use crate::{Images, Memory, Refusal};
 use heapops::Counts;
 use value::Value;
 
-fn listed(
-    code: &[u8],
-    places: &[u16],
-    rows: &[u16],
-    starts: &[u16],
-    stacks: &[u64],
-    heap: &[u64],
-    text: &[u8],
-    output: &[u8],
-) -> bool
-    ensures { result ≡ sizes_right (tables code.now places.now rows.now starts.now) (mem stacks.now heap.now text.now output.now) }
+fn listed(images: Images, memory: Memory) -> bool
+    ensures { result ≡ sizes_right (tables_of images.entry) (mem_of memory.entry) }
 {
-    code.len() == image::CODE_BYTES
-        && places.len() == image::CODE_BYTES
-        && rows.len() == image::CODE_BYTES
-        && starts.len() == image::IMAGES
-        && stacks.len() == stacks::STACK_WORDS
-        && heap.len() == heap::HEAP_WORDS
-        && text.len() == texts::TEXT_LIMIT
-        && output.len() == texts::OUTPUT_LIMIT
+    images.code.len() == image::CODE_BYTES
+        && images.places.len() == image::CODE_BYTES
+        && images.rows.len() == image::CODE_BYTES
+        && images.starts.len() == image::IMAGES
+        && memory.stacks.len() == stacks::STACK_WORDS
+        && memory.heap.len() == heap::HEAP_WORDS
+        && memory.text.len() == texts::TEXT_LIMIT
+        && memory.output.len() == texts::OUTPUT_LIMIT
 }
 
 // Are the counts within the stores? No call leaves others.
@@ -58,19 +47,10 @@ fn within(c: Counts) -> bool
 }
 
 /// Question 33 of the call that has no counts.
-pub fn sizes(
-    code: &[u8],
-    places: &[u16],
-    rows: &[u16],
-    starts: &[u16],
-    stacks: &[u64],
-    heap: &[u64],
-    text: &[u8],
-    output: &[u8],
-) -> Result<(), Refusal>
-    ensures { Asks result (sizes_right (tables code.now places.now rows.now starts.now) (mem stacks.now heap.now text.now output.now)) StoreSizes }
+pub fn sizes(images: Images, memory: Memory) -> Result<(), Refusal>
+    ensures { Asks result (sizes_right (tables_of images.entry) (mem_of memory.entry)) StoreSizes }
 {
-    if listed(code, places, rows, starts, stacks, heap, text, output) {
+    if listed(images, memory) {
         Ok(())
     } else {
         Err(Refusal::StoreSizes)
@@ -78,22 +58,12 @@ pub fn sizes(
 }
 
 /// Question 33.
-pub fn lent(
-    code: &[u8],
-    places: &[u16],
-    rows: &[u16],
-    starts: &[u16],
-    stacks: &[u64],
-    heap: &[u64],
-    text: &[u8],
-    output: &[u8],
-    c: Counts,
-) -> Result<(), Refusal>
+pub fn lent(images: Images, memory: Memory, c: Counts) -> Result<(), Refusal>
     ensures { MatchResult result
-        (λ _. Lent c (tables code.now places.now rows.now starts.now) (mem stacks.now heap.now text.now output.now))
-        (λ e. (are_lent c (tables code.now places.now rows.now starts.now) (mem stacks.now heap.now text.now output.now) ≡ false) × (e ≡ StoreSizes)) }
+        (λ _. Lent c (tables_of images.entry) (mem_of memory.entry))
+        (λ e. (are_lent c (tables_of images.entry) (mem_of memory.entry) ≡ false) × (e ≡ StoreSizes)) }
 {
-    if listed(code, places, rows, starts, stacks, heap, text, output) && within(c) {
+    if listed(images, memory) && within(c) {
         Ok(())
     } else {
         Err(Refusal::StoreSizes)
@@ -101,8 +71,8 @@ pub fn lent(
 }
 
 /// Question 10.
-pub fn loaded(c: Counts, image: usize) -> Result<(), Refusal>
-    ensures { (g : Tables) → Asks result (ltb image (length (images_of g.code g.places g.rows g.starts c.images))) NoImage }
+pub fn loaded(images: Images, c: Counts, image: usize) -> Result<(), Refusal>
+    ensures { Asks result (ltb image (length (images_in c (tables_of images.entry)))) NoImage }
 {
     if image < c.images {
         Ok(())
@@ -113,15 +83,14 @@ pub fn loaded(c: Counts, image: usize) -> Result<(), Refusal>
 
 /// Question 32. An image's chunk, its template 0, is no function.
 pub fn template(
-    rows: &[u16],
-    starts: &[u16],
+    images: Images,
     c: Counts,
     image: usize,
     template: usize,
 ) -> Result<(), Refusal>
-    ensures { (code places : List ℕ) → Asks result (leb 1 template && ltb template (length (get_or (images_of code places rows.now starts.now c.images) image []))) NoTemplate }
+    ensures { Asks result (leb 1 template && ltb template (length (get_or (images_in c (tables_of images.entry)) image []))) NoTemplate }
 {
-    if 0 < template && template < image::template_count(rows, starts, c.images, image) {
+    if 0 < template && template < image::template_count(images.rows, images.starts, c.images, image) {
         Ok(())
     } else {
         Err(Refusal::NoTemplate)

@@ -3,6 +3,7 @@
 #![tactic(auto)]
 
 use heap::HEAP_WORDS;
+use host::{Images, Memory};
 use image::{CODE_BYTES, IMAGES};
 
 const STDOUT: i32 = 1;
@@ -67,28 +68,35 @@ fn once(
     let Ok(fresh) = engine::clear(code, places, rows, starts, stacks, heap, text, output) else {
         return Last { end: 33, steps: 0 };
     };
-    match engine::images::load(
-        code, places, rows, starts, stacks, heap, text, output, fresh, image,
-    ) {
+    let memory = Memory {
+        stacks,
+        heap,
+        text,
+        output,
+    };
+    match engine::images::load(code, places, rows, starts, memory, fresh, image) {
         Err(e) => Last {
             end: u64::from(e),
             steps: 0,
         },
-        Ok((i, counts)) => match engine::runs::run(
-            code, places, rows, starts, stacks, heap, text, output, counts, i,
-        ) {
-            Err(e) => Last {
-                end: u64::from(e),
-                steps: 0,
-            },
-            Ok(r) => {
-                let e = r.end;
-                Last {
-                    end: run::end_number(e),
+        Ok((i, counts)) => {
+            let images = Images {
+                code,
+                places,
+                rows,
+                starts,
+            };
+            match engine::runs::run(images, stacks, heap, text, output, counts, i) {
+                Err(e) => Last {
+                    end: u64::from(e),
+                    steps: 0,
+                },
+                Ok(r) => Last {
+                    end: run::end_number(r.end),
                     steps: r.steps as u64,
-                }
+                },
             }
-        },
+        }
     }
 }
 

@@ -2,11 +2,11 @@
 //! tests/replay/README.md has the list's format and says how it is made.
 #![tactic(auto)]
 
+use host::{Images, Memory, Refusal};
 use bytes::{get, quad, triple, wide, word};
 use heap::HEAP_WORDS;
 use heapops::Counts;
 use held::Cursor;
-use host::Refusal;
 use image::{CODE_BYTES, IMAGES};
 
 const STDOUT: i32 = 1;
@@ -117,13 +117,7 @@ fn ended(code: &[u8], text: &[u8], e: Result<Value, Stop>, buf: &[u8], start: Cu
     c
 }
 
-fn output_agrees(
-    d: Result<(usize, Counts), Refusal>,
-    out: &[u8],
-    buf: &[u8],
-    c: Cursor,
-    what: u64,
-) -> Cursor {
+fn output_agrees(d: Result<(usize, Counts), Refusal>, out: &[u8], buf: &[u8], c: Cursor, what: u64) -> Cursor {
     match d {
         Ok((n, _)) => held::drained(out, n, buf, c, what),
         Err(_) => held::on(c, 0, false, what),
@@ -201,18 +195,13 @@ fn load_call(
     }
     let which = get(buf, c.place);
     let k = p.counts;
-    match engine::images::load(
-        code,
-        places,
-        rows,
-        starts,
+    let memory = Memory {
         stacks,
         heap,
         text,
         output,
-        k,
-        &buf[from..to],
-    ) {
+    };
+    match engine::images::load(code, places, rows, starts, memory, k, &buf[from..to]) {
         Ok((i, counts)) => Progress {
             counts,
             cursor: held::to(c, to, which == 1 && i as u64 == p.images, LOAD),
@@ -251,15 +240,23 @@ fn run_call(
     let c = p.cursor;
     let k = p.counts;
     let image = get(buf, wrapping_add_usize(c.place, 1)) as usize;
-    match engine::runs::run(
-        code, places, rows, starts, stacks, heap, text, output, k, image,
-    ) {
+    let images = Images {
+        code,
+        places,
+        rows,
+        starts,
+    };
+    match engine::runs::run(images, stacks, heap, text, output, k, image) {
         Err(e) => not_run(p, buf, u64::from(e)),
         Ok(r) => {
             let counts = r.counts;
-            let d = buffers::drain(
-                code, places, rows, starts, stacks, heap, text, output, counts, out,
-            );
+            let memory = Memory {
+                stacks,
+                heap,
+                text,
+                output,
+            };
+            let d = buffers::drain(images, memory, counts, out);
             let start = held::on(c, 2, get(buf, c.place) == 2, RUN);
             Progress {
                 counts,
@@ -287,9 +284,19 @@ fn drain_call(
     let c = p.cursor;
     let k = p.counts;
     let start = held::on(c, 1, true, 0);
-    match buffers::drain(
-        code, places, rows, starts, stacks, heap, text, output, k, out,
-    ) {
+    let images = Images {
+        code,
+        places,
+        rows,
+        starts,
+    };
+    let memory = Memory {
+        stacks,
+        heap,
+        text,
+        output,
+    };
+    match buffers::drain(images, memory, k, out) {
         Ok((n, counts)) => Progress {
             counts,
             cursor: held::drained(out, n, buf, start, DRAIN),
@@ -403,7 +410,9 @@ fn replayed(
             runs: 0,
         };
     }
-    let Ok(counts) = engine::clear(code, places, rows, starts, stacks, heap, text, output) else {
+    let Ok(counts) = engine::clear(
+        code, places, rows, starts, stacks, heap, text, output,
+    ) else {
         return Found {
             differs: CLEAR,
             runs: 0,

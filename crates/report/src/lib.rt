@@ -3,7 +3,7 @@
 
 use heap::HEAP_WORDS;
 use heapops::Counts;
-use host::Given;
+use host::{Given, Images, Memory};
 use image::{CODE_BYTES, IMAGES};
 
 const STDOUT: i32 = 1;
@@ -44,25 +44,31 @@ fn loaded_and_run(
     fresh: Counts,
     image: &[u8],
 ) -> Told {
-    match engine::images::load(
-        code, places, rows, starts, stacks, heap, text, output, fresh, image,
-    ) {
+    let memory = Memory {
+        stacks,
+        heap,
+        text,
+        output,
+    };
+    match engine::images::load(code, places, rows, starts, memory, fresh, image) {
         Err(e) => refused(u64::from(e), fresh),
-        Ok((i, loaded)) => match engine::runs::run(
-            code, places, rows, starts, stacks, heap, text, output, loaded, i,
-        ) {
-            Err(e) => refused(u64::from(e), loaded),
-            Ok(r) => {
-                let e = r.end;
-                let counts = r.counts;
-                Told {
-                    end: run::end_number(e),
+        Ok((i, loaded)) => {
+            let images = Images {
+                code,
+                places,
+                rows,
+                starts,
+            };
+            match engine::runs::run(images, stacks, heap, text, output, loaded, i) {
+                Err(e) => refused(u64::from(e), loaded),
+                Ok(r) => Told {
+                    end: run::end_number(r.end),
                     steps: r.steps as u64,
-                    value: run::end_value(e),
-                    counts,
-                }
+                    value: run::end_value(r.end),
+                    counts: r.counts,
+                },
             }
-        },
+        }
     }
 }
 
@@ -124,29 +130,13 @@ fn lines(s: &[u8], n: usize) {
     }
 }
 
-fn print<'a>(
-    code: &'a [u8],
-    places: &[u16],
-    rows: &[u16],
-    starts: &[u16],
-    stacks: &[u64],
-    heap: &[u64],
-    text: &'a [u8],
-    output: &[u8],
-    buffer: &mut [u8],
-    t: Told,
-) {
+fn print(images: Images, memory: Memory, buffer: &mut [u8], t: Told) {
     head(t);
-    let k = t.counts;
     let given = Given::Plain(t.value);
-    if let Ok(n) = buffers::text_of(
-        code, places, rows, starts, stacks, heap, text, output, k, given, buffer,
-    ) {
+    if let Ok(n) = buffers::text_of(images, memory, t.counts, given, buffer) {
         say_text(buffer, n);
     }
-    if let Ok((n, _)) = buffers::drain(
-        code, places, rows, starts, stacks, heap, text, output, k, buffer,
-    ) {
+    if let Ok((n, _)) = buffers::drain(images, memory, t.counts, buffer) {
         lines(buffer, n);
     }
 }
@@ -169,9 +159,19 @@ fn whole(
     let t = loaded_and_run(
         code, places, rows, starts, stacks, heap, text, output, fresh, image,
     );
-    print(
-        code, places, rows, starts, stacks, heap, text, output, buffer, t,
-    );
+    let images = Images {
+        code,
+        places,
+        rows,
+        starts,
+    };
+    let memory = Memory {
+        stacks,
+        heap,
+        text,
+        output,
+    };
+    print(images, memory, buffer, t);
 }
 
 pub fn run_image(image: &[u8]) {

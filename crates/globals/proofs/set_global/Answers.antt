@@ -17,3 +17,6 @@ returns-in_err-sizes c =
 
 pub returns : goal.returns
 returns c = set_done c.in_ok-lent.ensures c.args.name.now (given_of c.args.given) c.in_ok-ascii.ensures c.in_ok-ascii-2.ensures c.in_ok-handle.ensures c.in_ok-sizes.ensures c.put.auto.text
+
+pub handle-requires : goal.handle-requires
+handle-requires c = lent_use c.in_ok-lent.ensures

@@ -17,10 +17,10 @@ returns-in_err-loaded c =
 pub returns-in_err-depths : goal.returns-in_err-depths
 returns-in_err-depths c =
     let p = err_from_is_err_and c.from_residual-in_err-depths.result c.from_residual-in_err-depths.ensures.1 in
-    rw (p.1, p.2) (start_refused c.args.image c.in_ok-lent.ensures (c.in_ok-loaded.ensures _) c.in_err-depths.field-0.0 c.in_err-depths.ensures)
+    rw (p.1, p.2) (start_refused c.args.image c.in_ok-lent.ensures c.in_ok-loaded.ensures c.in_err-depths.field-0.0 c.in_err-depths.ensures)
 
 pub run_loop-requires : goal.run_loop-requires
-run_loop-requires c = start_whole c.args.image c.in_ok-lent.ensures (c.in_ok-loaded.ensures _) c.in_ok-depths.ensures
+run_loop-requires c = start_whole c.args.image c.in_ok-lent.ensures c.in_ok-loaded.ensures c.in_ok-depths.ensures
 
 pub returns : goal.returns
-returns c = start_ran c.args.image c.in_ok-lent.ensures (c.in_ok-loaded.ensures _) c.in_ok-depths.ensures c.run_loop.result c.run_loop.ensures.ran c.run_loop.ensures.leaves
+returns c = start_ran c.args.image c.in_ok-lent.ensures c.in_ok-loaded.ensures c.in_ok-depths.ensures c.run_loop.result c.run_loop.ensures.ran c.run_loop.ensures.leaves
