@@ -32,15 +32,13 @@ fn bytes_for(
     requires { op < 256 }
     ensures { result ≡ bytes_from (attempt_for op) }
 {
-    let mut n: u16 = 0;
-    while n < 2 {
+    for n in 0..2 {
         let a = attempt_of(op, 0, n, 4, heap, text, output);
         if a.number != 14 {
             return n;
         }
-        n += 1;
     }
-    n
+    2
 }
 
 // The least operands with which it does not give 15.
@@ -53,25 +51,20 @@ fn operands_for(
     requires { op < 256 }
     ensures { (result ≡ operands_from (attempt_for op)) × (result ≤ 3) }
 {
-    let mut m: usize = 0;
-    while m < 3 {
+    for m in 0..3 {
         let a = attempt_of(op, 0, 2, m, heap, text, output);
         if a.number != 15 {
             return m;
         }
-        m += 1;
     }
-    m
+    3
 }
 
 // Where what stands afterwards depends on the operand bytes, these say how many are taken.
 fn taken(standing: usize, other: usize, least: usize) -> u64
     ensures { result ≡ (if not (eqb standing other) then 254 else least) }
 {
-    if standing != other {
-        return 254;
-    }
-    least as u64
+    if standing != other { 254 } else { least as u64 }
 }
 
 // Of four operands, the least are taken, and so many stand afterwards.
@@ -79,11 +72,7 @@ fn pushed(standing: usize, least: usize) -> u64
     requires { least ≤ 3 }
     ensures { result ≡ (standing + least) - 4 }
 {
-    let kept = 4 - least;
-    if standing < kept {
-        return 0;
-    }
-    (standing - kept) as u64
+    standing.saturating_sub(4 - least) as u64
 }
 
 pub fn row_of(

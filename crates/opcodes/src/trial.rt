@@ -30,10 +30,8 @@ fn place_operands(stacks: &mut [u64])
     requires { length stacks.old ≡ stack_words }
     ensures { Objects stacks.old stacks.new 4 }
 {
-    let mut i: usize = 0;
-    while i < 4 {
+    for i in 0..4 {
         value::write(stacks, 3 * i, Value::Object(0));
-        i += 1;
     }
 }
 

@@ -2,20 +2,16 @@
 //! output after `>`. An input above MOST bytes is told instead, in a line that does not begin with `end`: nothing is loaded of it, and no call has a number for it.
 #![tactic(auto)]
 
-const STDOUT: i32 = 1;
-
-use report::say;
+use std::io::{self, Read};
 
 // The bytes of standard input that are taken.
-const MOST: usize = 70000;
+const MOST: u64 = 70000;
 
-fn main() {
-    let mut input: [u8; MOST + 1] = [0; MOST + 1];
-    let n = io::read_full(0, &mut input);
-    if MOST < n {
-        say(b"input above ", MOST as u64);
-        io::write_all(STDOUT, b" bytes: not loaded\n");
-        return;
+fn main(rt: HostRuntime) -> io::Result<()> {
+    let mut image = Vec::new(rt.alloc());
+    rt.reader().take(MOST + 1).read_to_end(&mut image)?;
+    if MOST < image.len() as u64 {
+        return println!(rt; "input above {MOST} bytes: not loaded");
     }
-    report::run_image(&input[..n]);
+    report::run_image(&rt, image.as_slice())
 }
