@@ -1,11 +1,11 @@
--- The machine's error and store of those in the code. Assumes nothing.
+-- The machine's error and store of those in the code, the papers' number of each, and its text. Assumes nothing.
 use Rattle.machine.specs.Error as M
 use Rattle.machine.specs.State as St
 use Rattle.value.specs.declared.JsVmError.{JsVmError}
 use Rattle.value.specs.declared.JsVmError.TheVariants.{ExecutionLimitExceeded, UnknownOpcode, IpOutOfBounds, StackUnderflow, StackOverflow, UncaughtException, NotCallable, InvalidFunctionId, NoCallFrame}
 use Rattle.value.specs.declared.Space.{Space}
 use Rattle.value.specs.declared.Space.TheVariants.{Frames, Slots, Handlers, Functions, Objects, Properties, Globals, Text, Output}
-use Rattle.std.specs.Prelude.{ℕ}
+use Rattle.std.specs.Prelude.{ℕ, List, ◌++◌, codes, decimal}
 use Rattle.value.specs.declared.Stop.{Stop}
 use Rattle.value.specs.declared.Stop.TheVariants.{Failed, Refused}
 use Rattle.value.specs.Words.{value_of}
@@ -36,3 +36,30 @@ space_of Output = St.output_store
 abbrev pub stop_number : Stop → ℕ
 stop_number (Failed e) = M.error_number (error_of e)
 stop_number (Refused q) = St.question (space_of q)
+
+-- document 000's words; the value of an exception that is not caught is told beside them, by whoever has its bytes
+abbrev pub error_text : JsVmError → List ℕ
+error_text ExecutionLimitExceeded = codes "Execution limit exceeded"
+error_text (UnknownOpcode b) = codes "Unknown opcode: " ++ decimal b
+error_text IpOutOfBounds = codes "IP out of bounds"
+error_text StackUnderflow = codes "Stack underflow"
+error_text StackOverflow = codes "Stack overflow"
+error_text (UncaughtException _) = codes "Uncaught exception"
+error_text NotCallable = codes "Not callable"
+error_text InvalidFunctionId = codes "Invalid function ID"
+error_text NoCallFrame = codes "No call frame"
+
+abbrev pub space_text : Space → List ℕ
+space_text Frames = codes "the frames are full"
+space_text Slots = codes "the slots are full"
+space_text Handlers = codes "the handlers are full"
+space_text Functions = codes "the functions are full"
+space_text Objects = codes "the objects are full"
+space_text Properties = codes "the properties are full"
+space_text Globals = codes "the globals are full"
+space_text Text = codes "the text store is full"
+space_text Output = codes "the output is full"
+
+abbrev pub stop_text : Stop → List ℕ
+stop_text (Failed e) = error_text e
+stop_text (Refused q) = space_text q
