@@ -3,7 +3,6 @@
 
 ghost use Rattle.std.specs.Prelude.{length};
 ghost use Rattle.machine.specs.Host as Host;
-ghost use Rattle.texts.specs.Sources.{InUse, stores_of};
 ghost use Rattle.texts.specs.Spells.{Writes};
 ghost use Rattle.host.specs.Calls.{Called, Buffered, answer_of_text, answer_of_drain, counts_of_drain};
 ghost use Rattle.host.specs.Givens.{given_of};
@@ -11,21 +10,14 @@ ghost use Rattle.host.specs.Stores.{tables_of, mem_of};
 
 use heapops::Counts;
 use host::{Given, Images, Memory, Refusal, questions};
+use texts::Texts;
 use texts::output::{write_bytes, write_text};
 
-fn write<'a>(
-    code: &'a [u8],
-    n: usize,
-    text: &'a [u8],
-    m: usize,
-    given: Given,
-    buffer: &mut [u8],
-) -> Option<usize>
-    requires { InUse code.now n text.now m }
-    ensures { Writes (Host.given_text (stores_of code.now n text.now m) (given_of given.entry)) buffer.old result buffer.new }
+fn write(texts: &Texts, given: Given, buffer: &mut [u8]) -> Option<usize>
+    ensures { Writes (Host.given_text texts.now (given_of given.entry)) buffer.old result buffer.new }
 {
     match given {
-        Given::Plain(v) => write_text(code, n, text, m, v, buffer),
+        Given::Plain(v) => write_text(texts, v, buffer),
         Given::Bytes(bytes) => write_bytes(bytes, buffer),
     }
 }
@@ -43,7 +35,8 @@ pub fn text_of<'a>(
     questions::lent(images, memory, c)?;
     given.ascii()?;
     given.handle(images.code, c.code, memory.text, c.text)?;
-    write(images.code, c.code, memory.text, c.text, given, buffer).ok_or(Refusal::BufferTooShort)
+    let texts = Texts::new(images.code, c.code, memory.text, c.text);
+    write(&texts, given, buffer).ok_or(Refusal::BufferTooShort)
 }
 
 pub fn drain(

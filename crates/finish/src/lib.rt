@@ -12,9 +12,11 @@ ghost use Rattle.heapops.specs.Turns.{Turns, mem, Loaded};
 ghost use Rattle.finish.specs.Parts.{Completes, Finishes, Ground, LeftReady, LeftBy, MoreReady, Looks, changing, tables, steady_of};
 
 use fetch::Running;
+use heap::Heap;
 use heapops::{Counts, Turned, create, joining, print, stores};
 use outcome::{Part, Stepped};
 use readops::{call, constants, lookups};
+use texts::Texts;
 use value::JsVmError;
 
 // Whatever an instruction does, the code and the images stay.
@@ -79,13 +81,13 @@ fn look_up<'a>(
 {
     let d = c.depths;
     let n = c.code;
-    let m = c.text;
-    let z = c.sizes;
+    let texts = Texts::new(code, n, text, c.text);
+    let held = Heap::new(c.sizes, heap);
     match op {
-        3 => lookups::load_global(x, d, code, n, places, text, m, z, heap, stacks),
-        5 => lookups::load_property(x, d, code, n, places, text, m, z, heap, stacks),
-        7 => lookups::load_index(d, code, n, text, m, z, heap, stacks),
-        50 => call::call(x, d, code, n, rows, starts, c.images, z, heap, stacks),
+        3 => lookups::load_global(x, d, code, n, places, &texts, &held, stacks),
+        5 => lookups::load_property(x, d, code, n, places, &texts, &held, stacks),
+        7 => lookups::load_index(d, &texts, &held, stacks),
+        50 => call::call(x, d, code, n, rows, starts, c.images, &held, stacks),
         52 => constants::create_closure(x, d, code, n, places, stacks),
         _ => outcome::failed(JsVmError::UnknownOpcode(op as u8), d),
     }

@@ -12,10 +12,10 @@ ghost use Rattle.host.specs.Calls.{Called, answer_of_changed, counts_of_changed,
 ghost use Rattle.host.specs.Givens.{given_of};
 ghost use Rattle.host.specs.Stores.{tables_of, mem_of};
 
-use heap::Sizes;
+use heap::{Heap, Sizes};
 use heapops::Counts;
 use host::{Given, Images, Memory, Refusal, questions};
-use texts::Source;
+use texts::{Source, Texts};
 use value::{Space, Value};
 
 // A global under a name: a text that is given as bytes is kept behind it.
@@ -65,7 +65,14 @@ pub fn set_global(
     given.ascii()?;
     given.handle(images.code, c.code, text, c.text)?;
     let (sizes, used) = put(
-        c.sizes, heap, images.code, c.code, text, c.text, name, given,
+        c.sizes,
+        heap,
+        images.code,
+        c.code,
+        text,
+        c.text,
+        name,
+        given,
     )?;
     Ok(Counts {
         sizes,
@@ -74,15 +81,11 @@ pub fn set_global(
     })
 }
 
-pub fn read_global(
-    images: Images,
-    memory: Memory,
-    c: Counts,
-    name: &[u8],
-) -> Result<Value, Refusal>
+pub fn read_global(images: Images, memory: Memory, c: Counts, name: &[u8]) -> Result<Value, Refusal>
     ensures { Called (Host.read_global name.now) c (tables_of images.entry) (mem_of memory.entry) (answer_of_read result) c (tables_of images.entry) (mem_of memory.entry) }
 {
     questions::lent(images, memory, c)?;
     questions::ascii(name)?;
-    Ok(heap::global(memory.text, c.text, memory.heap, c.sizes.globals, name))
+    let texts = Texts::new(images.code, c.code, memory.text, c.text);
+    Ok(Heap::new(c.sizes, memory.heap).global(&texts, name))
 }

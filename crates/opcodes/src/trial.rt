@@ -15,7 +15,7 @@ use fetch::Running;
 use heap::{HEAP_WORDS, Sizes};
 use heapops::{Counts, How, Turned};
 use stacks::{Depths, STACK_WORDS};
-use texts::{OUTPUT_LIMIT, TEXT_LIMIT};
+use texts::{OUTPUT_LIMIT, TEXT_LIMIT, Texts};
 use value::Value;
 
 // The number that the instruction gives, and the operands that stand afterwards, 0 where it does not go on in its frame.
@@ -58,7 +58,8 @@ fn perform(
     requires op_bound { op < 256 }
     ensures { Turns (Ground x c (tables code.now places.now rows.now starts.now)) (instruction op) c (mem stacks.old heap.old text.old output.old) result (mem stacks.new heap.new text.new output.new) }
 {
-    let r = dispatch::execute(op, x, c.depths, code, c.code, places, stacks, text, c.text);
+    let texts = Texts::new(code, c.code, text, c.text);
+    let r = dispatch::execute(op, x, c.depths, code, c.code, places, stacks, &texts);
     finish::finish(
         r, x, c, code, places, rows, starts, stacks, heap, text, output,
     )
@@ -68,30 +69,19 @@ fn perform(
 fn attempted(t: Turned) -> Attempt
     ensures { Tells t result }
 {
-    let how = t.how;
-    match how {
-        How::Went => {
-            let d = t.counts.depths;
-            if d.frames != 1 {
-                return Attempt {
-                    number: 0,
-                    standing: 0,
-                };
-            }
-            Attempt {
-                number: 0,
-                standing: d.operands,
-            }
-        }
-        How::Ended(e) => match e {
-            Ok(_) => Attempt {
-                number: 0,
-                standing: 0,
-            },
-            Err(q) => Attempt {
-                number: u64::from(q),
-                standing: 0,
-            },
+    let d = t.counts.depths;
+    match t.how {
+        How::Went if d.frames == 1 => Attempt {
+            number: 0,
+            standing: d.operands,
+        },
+        How::Went | How::Ended(Ok(_)) => Attempt {
+            number: 0,
+            standing: 0,
+        },
+        How::Ended(Err(e)) => Attempt {
+            number: u64::from(e),
+            standing: 0,
         },
         How::Refused(q) => Attempt {
             number: u64::from(q),

@@ -16,7 +16,7 @@ ghost use Rattle.reach.specs.Leaps.{Leaps, LeapStep};
 use crate::with_count;
 use fetch::Running;
 use heap::Heap;
-use heapops::{Counts, with_depths};
+use heapops::Counts;
 use quick::{byte_at, control, settle};
 use readops::constants::is_text;
 use stacks::Depths;
@@ -144,7 +144,7 @@ pub fn step(
     let p = d.ip;
     if p < x.shape.size {
         let op = byte_at(code, x.shape.at + p);
-        let e = with_depths(c, d.with_ip(p + 1));
+        let e = c.with_depths(d.with_ip(p + 1));
         return execute(op, x, e, code, rows, starts, stacks, heap, text);
     }
     None

@@ -22,7 +22,7 @@ ghost use Rattle.reach.specs.Distinct.{Distinct};
 ghost use Rattle.reach.specs.Reaches.{Reaches, ReachStep, counted, quick_in, Sure};
 
 use fetch::Running;
-use heapops::{Counts, with_depths};
+use heapops::Counts;
 use quick::{Here, byte_at, word_at};
 use stacks::Depths;
 
@@ -92,7 +92,7 @@ pub fn step(
         let at = x.shape.at + p;
         let op = byte_at(code, at);
         let i = word_at(code, at + 1);
-        let e = with_depths(c, d.with_ip(p + 1));
+        let e = c.with_depths(d.with_ip(p + 1));
         return execute(op, x, e, i, guess, code, places, stacks, heap, text);
     }
     None

@@ -66,7 +66,7 @@ fn main(rt: HostRuntime) -> io::Result<()> {
     let mut image = Vec::new(rt.alloc());
     input.read_to_end(&mut image)?;
     let count = head.trim_end().parse::<u64>().unwrap_or(0);
-    let mut stores = Stores::new();
+    let mut stores = Stores::filled(0);
     let last = many(&mut stores, image.as_slice(), count);
     println!(rt; "{last}")
 }

@@ -1,9 +1,9 @@
 //! What the engine holds after a run, beside the state that the list has. The rows of the stores are read where crates stacks and heap lay them.
-use crate::Stores;
 use crate::bytes::{List, agrees, is_text};
 use crate::differs::{Differs, want};
 use heap::{GLOBALS_AT, OBJECTS_AT, PROPERTIES_AT};
 use heapops::Counts;
+use report::Stores;
 use stacks::{FRAMES_AT, HANDLERS_AT, SLOTS_AT};
 use value::{Value, Words};
 

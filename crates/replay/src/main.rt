@@ -4,15 +4,13 @@
 
 use bytes::List;
 use differs::{Differs, want};
-use heap::HEAP_WORDS;
 use heapops::Counts;
 use held::{Held, drained};
 use host::Refusal;
-use image::{CODE_BYTES, IMAGES};
+use report::Stores;
 use run::Ran;
-use stacks::STACK_WORDS;
 use std::io::{self, Read};
-use texts::{OUTPUT_LIMIT, TEXT_LIMIT};
+use texts::OUTPUT_LIMIT;
 use value::{JsVmError, Stop, Value};
 
 mod bytes;
@@ -30,16 +28,15 @@ const PROGRAM_BYTES: usize = 65536;
 
 // The stores that the engine is lent, and where its output is drained to.
 #[derive(Drop)]
-struct Stores {
-    code: [u8; CODE_BYTES],
-    places: [u16; CODE_BYTES],
-    rows: [u16; CODE_BYTES],
-    starts: [u16; IMAGES],
-    stacks: [u64; STACK_WORDS],
-    heap: [u64; HEAP_WORDS],
-    text: [u8; TEXT_LIMIT],
-    output: [u8; OUTPUT_LIMIT],
+struct Engine {
+    stores: Stores,
     drained: [u8; OUTPUT_LIMIT],
+}
+
+impl Engine {
+    fn drain(&mut self, counts: Counts) -> Result<(usize, Counts), Refusal> {
+        self.stores.drain(counts, &mut self.drained)
+    }
 }
 
 // A program as far as it was replayed: the counts that the engine answered last, and how many images were loaded and runs made.
@@ -81,84 +78,34 @@ fn ended(held: Held<'_>, list: &mut List<'_>, e: Result<Value, Stop>) -> Result<
 }
 
 // What a run answers and leaves; `size` is that of its output.
-fn compared(s: &Stores, list: &mut List<'_>, r: Ran, size: Option<usize>) -> Result<(), Differs> {
+fn compared(
+    engine: &Engine,
+    list: &mut List<'_>,
+    r: Ran,
+    size: Option<usize>,
+) -> Result<(), Differs> {
     let held = Held {
-        stores: s,
+        stores: &engine.stores,
         counts: r.counts,
     };
     ended(held, list, r.end)?;
     want(list.triple(), r.steps as u64, Differs::Steps)?;
     held.state(list)?;
     let size = size.ok_or(Differs::Output)?;
-    drained(list, &s.drained, size, Differs::Output)?;
+    drained(list, &engine.drained, size, Differs::Output)?;
     held.in_use(list)
-}
-
-impl Stores {
-    fn drain(&mut self, counts: Counts) -> Result<(usize, Counts), Refusal> {
-        buffers::drain(
-            &self.code,
-            &self.places,
-            &self.rows,
-            &self.starts,
-            &self.stacks,
-            &self.heap,
-            &self.text,
-            &self.output,
-            counts,
-            &mut self.drained,
-        )
-    }
-
-    fn load(&mut self, counts: Counts, image: &[u8]) -> Result<(usize, Counts), Refusal> {
-        engine::images::load(
-            &mut self.code,
-            &mut self.places,
-            &mut self.rows,
-            &mut self.starts,
-            &self.stacks,
-            &self.heap,
-            &self.text,
-            &self.output,
-            counts,
-            image,
-        )
-    }
-
-    fn run(&mut self, counts: Counts, image: usize) -> Result<Ran, Refusal> {
-        engine::runs::run(
-            &self.code,
-            &self.places,
-            &self.rows,
-            &self.starts,
-            &mut self.stacks,
-            &mut self.heap,
-            &mut self.text,
-            &mut self.output,
-            counts,
-            image,
-        )
-    }
-
-    fn clear(&mut self) -> Result<Counts, Refusal> {
-        engine::clear(
-            &mut self.code,
-            &mut self.places,
-            &mut self.rows,
-            &mut self.starts,
-            &mut self.stacks,
-            &mut self.heap,
-            &mut self.text,
-            &mut self.output,
-        )
-    }
 }
 
 impl Progress {
     // A load is refused where the list has the number of a question behind its image.
-    fn load(&mut self, s: &mut Stores, list: &mut List<'_>, refused: bool) -> Result<(), Differs> {
+    fn load(
+        &mut self,
+        engine: &mut Engine,
+        list: &mut List<'_>,
+        refused: bool,
+    ) -> Result<(), Differs> {
         let image = list.text().ok_or(Differs::Cut)?;
-        match s.load(self.counts, image) {
+        match engine.stores.load(self.counts, image) {
             Ok((i, counts)) => {
                 self.counts = counts;
                 let wanted = if refused { None } else { Some(self.images) };
@@ -173,17 +120,22 @@ impl Progress {
     }
 
     // So is a run where it has one behind its image's number.
-    fn run(&mut self, s: &mut Stores, list: &mut List<'_>, refused: bool) -> Result<(), Differs> {
+    fn run(
+        &mut self,
+        engine: &mut Engine,
+        list: &mut List<'_>,
+        refused: bool,
+    ) -> Result<(), Differs> {
         let image = list.byte().ok_or(Differs::Run)? as usize;
-        match s.run(self.counts, image) {
+        match engine.stores.run(self.counts, image) {
             Ok(r) => {
                 self.counts = r.counts;
                 self.runs = self.runs.saturating_add(1);
-                let size = s.drain(r.counts).ok().map(|(n, _)| n);
+                let size = engine.drain(r.counts).ok().map(|(n, _)| n);
                 if refused {
                     return Err(Differs::Run);
                 }
-                compared(s, list, r, size)
+                compared(engine, list, r, size)
             }
             Err(e) => {
                 let question = if refused { list.byte() } else { None };
@@ -192,34 +144,34 @@ impl Progress {
         }
     }
 
-    fn drain(&mut self, s: &mut Stores, list: &mut List<'_>) -> Result<(), Differs> {
-        let Ok((n, counts)) = s.drain(self.counts) else {
+    fn drain(&mut self, engine: &mut Engine, list: &mut List<'_>) -> Result<(), Differs> {
+        let Ok((n, counts)) = engine.drain(self.counts) else {
             return Err(Differs::Drain);
         };
         self.counts = counts;
-        drained(list, &s.drained, n, Differs::Drain)
+        drained(list, &engine.drained, n, Differs::Drain)
     }
 
     // One call of the list.
-    fn call(&mut self, s: &mut Stores, list: &mut List<'_>) -> Result<(), Differs> {
+    fn call(&mut self, engine: &mut Engine, list: &mut List<'_>) -> Result<(), Differs> {
         match list.byte() {
-            Some(1) => self.load(s, list, false),
-            Some(2) => self.run(s, list, false),
-            Some(3) => self.drain(s, list),
-            Some(7) => self.run(s, list, true),
-            Some(8) => self.load(s, list, true),
+            Some(1) => self.load(engine, list, false),
+            Some(2) => self.run(engine, list, false),
+            Some(3) => self.drain(engine, list),
+            Some(7) => self.run(engine, list, true),
+            Some(8) => self.load(engine, list, true),
             _ => Err(Differs::Cut),
         }
     }
 
     // A program's calls, each of which has a byte or more.
-    fn calls(&mut self, s: &mut Stores, program: &[u8]) -> Result<(), Differs> {
+    fn calls(&mut self, engine: &mut Engine, program: &[u8]) -> Result<(), Differs> {
         let mut list = List::new(program);
         for _ in 0..program.len() {
             if list.is_done() {
                 return Ok(());
             }
-            self.call(s, &mut list)?;
+            self.call(engine, &mut list)?;
         }
         Ok(())
     }
@@ -233,8 +185,8 @@ struct Found {
 }
 
 // The calls of a program, on a cleared engine.
-fn replayed(s: &mut Stores, program: &[u8]) -> Found {
-    let Ok(counts) = s.clear() else {
+fn replayed(engine: &mut Engine, program: &[u8]) -> Found {
+    let Ok(counts) = engine.stores.clear() else {
         return Found {
             differs: Some(Differs::Clear),
             runs: 0,
@@ -245,7 +197,7 @@ fn replayed(s: &mut Stores, program: &[u8]) -> Found {
         images: 0,
         runs: 0,
     };
-    let differs = progress.calls(s, program).err();
+    let differs = progress.calls(engine, program).err();
     Found {
         differs,
         runs: progress.runs,
@@ -302,7 +254,7 @@ fn next_program<'a>(list: &mut impl Read, buf: &'a mut [u8]) -> Option<&'a [u8]>
 fn programs(
     rt: &impl Print,
     list: &mut impl Read,
-    s: &mut Stores,
+    engine: &mut Engine,
     count: u32,
 ) -> io::Result<Tally> {
     let mut buf = [0u8; PROGRAM_BYTES];
@@ -312,7 +264,7 @@ fn programs(
             tally.cut = true;
             return Ok(tally);
         };
-        tally.add(rt, replayed(s, program))?;
+        tally.add(rt, replayed(engine, program))?;
     }
     Ok(tally)
 }
@@ -324,17 +276,10 @@ fn main(rt: HostRuntime) -> io::Result<()> {
     }
     let count = number(&mut list);
     let runs = number(&mut list);
-    let mut stores = Stores {
-        code: [170; CODE_BYTES],
-        places: [43690; CODE_BYTES],
-        rows: [43690; CODE_BYTES],
-        starts: [43690; IMAGES],
-        stacks: [43690; STACK_WORDS],
-        heap: [43690; HEAP_WORDS],
-        text: [170; TEXT_LIMIT],
-        output: [170; OUTPUT_LIMIT],
+    let mut engine = Engine {
+        stores: Stores::filled(0xaa),
         drained: [0; OUTPUT_LIMIT],
     };
-    let tally = programs(&rt, &mut list, &mut stores, count)?;
+    let tally = programs(&rt, &mut list, &mut engine, count)?;
     tally.report(&rt, u64::from(runs))
 }

@@ -86,38 +86,13 @@ fn print_lines(rt: &impl Print, drained: &[u8]) -> io::Result<()> {
 
 fn print_told(rt: &impl Print, stores: &Stores, buffer: &mut [u8], told: Told) -> io::Result<()> {
     print!(rt; "{told}")?;
-    let text = buffers::text_of(
-        &stores.code,
-        &stores.places,
-        &stores.rows,
-        &stores.starts,
-        &stores.stacks,
-        &stores.heap,
-        &stores.text,
-        &stores.output,
-        told.counts,
-        Given::Plain(told.value),
-        buffer,
-    );
-    if let Ok(n) = text {
+    if let Ok(n) = stores.text_of(told.counts, Given::Plain(told.value), buffer) {
         let size = n.min(buffer.len());
         let mut out = io::writer(rt);
         out.write_all(&buffer[..size])?;
         out.write_all(b"\n")?;
     }
-    let drained = buffers::drain(
-        &stores.code,
-        &stores.places,
-        &stores.rows,
-        &stores.starts,
-        &stores.stacks,
-        &stores.heap,
-        &stores.text,
-        &stores.output,
-        told.counts,
-        buffer,
-    );
-    if let Ok((n, _)) = drained {
+    if let Ok((n, _)) = stores.drain(told.counts, buffer) {
         let size = n.min(buffer.len());
         print_lines(rt, &buffer[..size])?;
     }
@@ -125,7 +100,7 @@ fn print_told(rt: &impl Print, stores: &Stores, buffer: &mut [u8], told: Told) -
 }
 
 pub fn run_image(rt: &impl Print, image: &[u8]) -> io::Result<()> {
-    let mut stores = Stores::new();
+    let mut stores = Stores::filled(0);
     let Ok(fresh) = stores.clear() else {
         return Ok(());
     };

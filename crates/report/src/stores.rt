@@ -1,7 +1,7 @@
 //! The stores that an engine is lent, and the calls that the programs make over them.
 use heap::HEAP_WORDS;
 use heapops::Counts;
-use host::Refusal;
+use host::{Given, Images, Memory, Refusal};
 use image::{CODE_BYTES, IMAGES};
 use run::Ran;
 use stacks::STACK_WORDS;
@@ -21,16 +21,36 @@ pub struct Stores {
 }
 
 impl Stores {
-    pub fn new() -> Stores {
+    // An engine is lent memory of any contents; here each word has the byte b twice.
+    pub fn filled(b: u8) -> Stores {
+        let pair = u16::from_be_bytes([b, b]);
         Stores {
-            code: [0; CODE_BYTES],
-            places: [0; CODE_BYTES],
-            rows: [0; CODE_BYTES],
-            starts: [0; IMAGES],
-            stacks: [0; STACK_WORDS],
-            heap: [0; HEAP_WORDS],
-            text: [0; TEXT_LIMIT],
-            output: [0; OUTPUT_LIMIT],
+            code: [b; CODE_BYTES],
+            places: [pair; CODE_BYTES],
+            rows: [pair; CODE_BYTES],
+            starts: [pair; IMAGES],
+            stacks: [u64::from(pair); STACK_WORDS],
+            heap: [u64::from(pair); HEAP_WORDS],
+            text: [b; TEXT_LIMIT],
+            output: [b; OUTPUT_LIMIT],
+        }
+    }
+
+    pub fn images(&self) -> Images<'_> {
+        Images {
+            code: &self.code,
+            places: &self.places,
+            rows: &self.rows,
+            starts: &self.starts,
+        }
+    }
+
+    pub fn memory(&self) -> Memory<'_> {
+        Memory {
+            stacks: &self.stacks,
+            heap: &self.heap,
+            text: &self.text,
+            output: &self.output,
         }
     }
 
@@ -48,26 +68,32 @@ impl Stores {
     }
 
     pub fn load(&mut self, counts: Counts, image: &[u8]) -> Result<(usize, Counts), Refusal> {
+        let memory = Memory {
+            stacks: &self.stacks,
+            heap: &self.heap,
+            text: &self.text,
+            output: &self.output,
+        };
         engine::images::load(
             &mut self.code,
             &mut self.places,
             &mut self.rows,
             &mut self.starts,
-            &self.stacks,
-            &self.heap,
-            &self.text,
-            &self.output,
+            memory,
             counts,
             image,
         )
     }
 
     pub fn run(&mut self, counts: Counts, image: usize) -> Result<Ran, Refusal> {
+        let images = Images {
+            code: &self.code,
+            places: &self.places,
+            rows: &self.rows,
+            starts: &self.starts,
+        };
         engine::runs::run(
-            &self.code,
-            &self.places,
-            &self.rows,
-            &self.starts,
+            images,
             &mut self.stacks,
             &mut self.heap,
             &mut self.text,
@@ -75,5 +101,18 @@ impl Stores {
             counts,
             image,
         )
+    }
+
+    pub fn text_of(
+        &self,
+        counts: Counts,
+        given: Given<'_>,
+        buffer: &mut [u8],
+    ) -> Result<usize, Refusal> {
+        buffers::text_of(self.images(), self.memory(), counts, given, buffer)
+    }
+
+    pub fn drain(&self, counts: Counts, buffer: &mut [u8]) -> Result<(usize, Counts), Refusal> {
+        buffers::drain(self.images(), self.memory(), counts, buffer)
     }
 }

@@ -12,8 +12,9 @@ ghost use Rattle.run.specs.Advances.{Advances, progress, advanced};
 
 use crate::speed::{HINTS, speed};
 use fetch::Running;
-use heapops::{Counts, How, Turned, with_depths};
+use heapops::{Counts, How, Turned};
 use outcome::Part;
+use texts::Texts;
 
 // What came of some steps beside the counts: the template at hand, the steps of the run so far, and how the last one came out.
 #[derive(Clone, Copy)]
@@ -63,10 +64,11 @@ fn turn(
     requires output_le_output_limit { (c.output ≤ output_limit) × (length output.old ≡ output_limit) }
     ensures { Takes x c (tables code.now places.now rows.now starts.now) (mem stacks.old heap.old text.old output.old) result (mem stacks.new heap.new text.new output.new) }
 {
-    let r = dispatch::step(x, c.depths, code, c.code, places, stacks, text, c.text);
+    let texts = Texts::new(code, c.code, text, c.text);
+    let r = dispatch::step(x, c.depths, code, c.code, places, stacks, &texts);
     let part = r.how;
     match part {
-        Part::Went => heapops::went(with_depths(c, r.depths)),
+        Part::Went => heapops::went(c.with_depths(r.depths)),
         _ => finish::finish(
             r, x, c, code, places, rows, starts, stacks, heap, text, output,
         ),

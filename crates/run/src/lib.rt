@@ -14,7 +14,7 @@ ghost use Rattle.finish.specs.Parts.{tables};
 ghost use Rattle.run.specs.Runs.{result_of, ending_of, ran_to, at_rest, Whole, ground_of, state_in, ran_of, run_of, Leaves};
 
 use advance::advance;
-use heapops::{Counts, How, with_depths};
+use heapops::{Counts, How};
 use speed::HINTS;
 use stacks::Depths;
 use value::{JsVmError, Stop, Value};
@@ -32,7 +32,7 @@ fn at_rest(c: Counts) -> Counts
 {
     let d = c.depths;
     if d.frames == 0 {
-        return with_depths(c, Depths { ip: 0, ..d });
+        return c.with_depths(Depths { ip: 0, ..d });
     }
     c
 }

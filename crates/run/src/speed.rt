@@ -13,7 +13,7 @@ ghost use Rattle.run.specs.Speed.{Strides, Speeds, strode, sped_to, stay_of};
 
 use crate::MAX_STEPS;
 use fetch::Running;
-use heapops::{Counts, with_depths};
+use heapops::Counts;
 use quick::Here;
 use reach::leaps;
 use stacks::{Depths, FRAMES_AT};
@@ -114,7 +114,7 @@ fn stride(
             None => {
                 let at = e.ip % HINTS;
                 let guess = hints[at];
-                let b = with_depths(c, e);
+                let b = c.with_depths(e);
                 let Some((f, row)) = reach::step(x, y, b, guess, code, places, stacks, heap, text)
                 else {
                     return strode_to(e, k);
@@ -188,7 +188,7 @@ pub fn speed(
             return sped_to(d, made);
         };
         let r = stride(x, h, d, made, code, places, stacks, heap, text, hints);
-        d = with_depths(d, r.depths);
+        d = d.with_depths(r.depths);
         made = r.steps;
         let Some((f, m)) = leaps::step(x, d, code, rows, starts, stacks, heap, text) else {
             return sped_to(d, made);

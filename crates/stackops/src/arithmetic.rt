@@ -12,11 +12,7 @@ use stacks::Depths;
 use texts::Texts;
 use value::Value;
 
-pub fn pop_numbers(
-    d: Depths,
-    texts: &Texts,
-    stacks: &[u64],
-) -> Option<(JsNumber, JsNumber, Depths)>
+pub fn pop_numbers(d: Depths, texts: &Texts, stacks: &[u64]) -> Option<(JsNumber, JsNumber, Depths)>
     requires { Ready d stacks.now }
     ensures { PairsNumbers (Holding texts.now) d stacks.now result }
 {
@@ -29,11 +25,7 @@ pub fn pop_numbers(
 }
 
 /// Sub, Mul, Div, Mod and the bits. At `Add` it would not be the machine's, which joins texts.
-pub fn compute<O: Arithmetic>(
-    d: Depths,
-    texts: &Texts,
-    stacks: &mut [u64],
-) -> Stepped
+pub fn compute<O: Arithmetic>(d: Depths, texts: &Texts, stacks: &mut [u64]) -> Stepped
     requires { Ready d stacks.old }
     ensures { Meets (Holding texts.now) (arithmetic O.of) d stacks.old result stacks.new }
 {
@@ -43,11 +35,7 @@ pub fn compute<O: Arithmetic>(
     push_value(e, stacks, Value::Number(O::apply(a, b).bits))
 }
 
-pub fn neg(
-    d: Depths,
-    texts: &Texts,
-    stacks: &mut [u64],
-) -> Stepped
+pub fn neg(d: Depths, texts: &Texts, stacks: &mut [u64]) -> Stepped
     requires { Ready d stacks.old }
     ensures { Meets (Holding texts.now) Neg d stacks.old result stacks.new }
 {

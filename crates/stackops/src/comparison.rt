@@ -33,11 +33,7 @@ pub fn equality<const STRICT: bool, const WANTED: bool>(
 }
 
 /// Lt, Gt, LtEq and GtEq.
-pub fn compare<O: Comparison>(
-    d: Depths,
-    texts: &Texts,
-    stacks: &mut [u64],
-) -> Stepped
+pub fn compare<O: Comparison>(d: Depths, texts: &Texts, stacks: &mut [u64]) -> Stepped
     requires { Ready d stacks.old }
     ensures { Meets (Holding texts.now) (comparison O.of) d stacks.old result stacks.new }
 {

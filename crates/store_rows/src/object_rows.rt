@@ -28,19 +28,23 @@ fn length_after(heap: &mut [u64], text: &mut [u8], stacks: &[u64], key: &[u8]) -
     let (y, m) = arrays::add_array(z, heap, text, 0, stacks, 0, 0, 0).ok()?;
     let size = Source::Buffer(key.len() as u64);
     let array = Value::Object(0);
-    let (x, e) =
-        arrays::set_property(y, heap, b"", 0, text, m, key, array, size, Value::Null).ok()?;
+    let (x, e) = arrays::set_property(
+        y,
+        heap,
+        b"",
+        0,
+        text,
+        m,
+        key,
+        array,
+        size,
+        Value::Null,
+    ).ok()?;
     Some(property(x, heap, text, e, b"length"))
 }
 
 // Is it this number?
-fn stretches(
-    heap: &mut [u64],
-    text: &mut [u8],
-    stacks: &[u64],
-    key: &[u8],
-    floor: u64,
-) -> bool
+fn stretches(heap: &mut [u64], text: &mut [u8], stacks: &[u64], key: &[u8], floor: u64) -> bool
     requires { (length heap.old ≡ heap_words) × (length text.old ≡ text_limit) × (length stacks.now ≡ stack_words) }
 {
     match length_after(heap, text, stacks, key) {

@@ -157,7 +157,7 @@ impl Item {
 }
 
 // A byte too few for an item, then just enough.
-fn item(t: Tally, short: &mut [u8], exact: &mut [u8], item: Item) -> Tally {
+fn at_edge(t: Tally, short: &mut [u8], exact: &mut [u8], item: Item) -> Tally {
     let t = opened(t, short);
     let t = t.met(31, item.write(t.writer, short));
     let t = opened(t, exact);
@@ -176,13 +176,13 @@ fn exact(t: Tally) -> Tally {
     let mut b17: [u8; 17] = [OTHER; 17];
     let mut b18: [u8; 18] = [OTHER; 18];
     let mut b19: [u8; 19] = [OTHER; 19];
-    let t = item(t, &mut b18, &mut b19, Item::Number);
-    let t = item(t, &mut b16, &mut b17, Item::Text);
-    let t = item(t, &mut b11, &mut b12, Item::Boolean);
-    let t = item(t, &mut b10, &mut b11, Item::Null);
-    let t = item(t, &mut b10, &mut b11, Item::Undefined);
-    let t = item(t, &mut b12, &mut b13, Item::Function);
-    item(t, &mut b13, &mut b14, Item::Code)
+    let t = at_edge(t, &mut b18, &mut b19, Item::Number);
+    let t = at_edge(t, &mut b16, &mut b17, Item::Text);
+    let t = at_edge(t, &mut b11, &mut b12, Item::Boolean);
+    let t = at_edge(t, &mut b10, &mut b11, Item::Null);
+    let t = at_edge(t, &mut b10, &mut b11, Item::Undefined);
+    let t = at_edge(t, &mut b12, &mut b13, Item::Function);
+    at_edge(t, &mut b13, &mut b14, Item::Code)
 }
 
 // The counts and lengths that one call gives.
