@@ -61,7 +61,9 @@ impl<'a> Texts<'a> {
     }
 
     /// The bytes of a text.
-    pub fn bytes_of(&self, buffer: &'a [u8], source: Source) -> &'a [u8]
+    pub fn bytes_of<'b>(&self, buffer: &'b [u8], source: Source) -> &'b [u8]
+    where
+        'a: 'b,
         ensures { result.now ≡ source_bytes self.now buffer.now source }
     {
         match source {
