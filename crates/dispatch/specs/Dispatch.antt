@@ -1,19 +1,23 @@
 -- The dispatcher's contract, and a step's. Assumes nothing.
-use Rattle.std.specs.Prelude.{ℕ, ◌+◌, ◌-◌, ◌*◌, ◌≤◌, ◌<◌, Bool, List, [], ◌∷◌, ◌≡◌, refl, ltb, get_or, Option, Some, None}
+use Rattle.std.specs.Prelude.{ℕ, ◌+◌, ◌-◌, ◌*◌, ◌≤◌, ◌<◌, Bool, List, [], ◌∷◌, ◌≡◌, refl, ltb, get_or, Option, Some, None, Err}
 use Rattle.std.proofs.Common.{sym, ap, subst, ◌∙◌, lt-ltb, le-ltb, arith}
 use Rattle.std.specs.Prelude.{if◌then◌else◌}
 use Rattle.machine.specs.Image as Im
 use Rattle.machine.specs.State as St
 use Rattle.machine.specs.Act as A
-use Rattle.machine.specs.Program.{Program, make, next}
+use Rattle.machine.specs.Error.{unknown_opcode}
+use Rattle.machine.specs.Program.{Program, make, next, end, failed}
 use Rattle.machine.specs.Instruction as I
 use Rattle.machine.specs.Run as R
 use Rattle.machine.specs.Out.{out, out_pop_frame, out_next}
+use Rattle.value.specs.declared.JsVmError.TheVariants.{UnknownOpcode}
 use Rattle.value.specs.Lists.{stack_pop, stack_none}
 use Rattle.stacks.specs.Layout.{frames_at}
 use Rattle.stacks.specs.View
 use Rattle.stacks.specs.declared.Depths.{Depths}
-use Rattle.outcome.specs.Meets.{Meets, Any, Tells, KeptOf, stepped}
+use Rattle.opcode.specs.Programs.{deferred}
+use Rattle.opcode.specs.declared.Deferred.{Deferred}
+use Rattle.outcome.specs.Meets.{Meets, Any, Tells, KeptOf, stepped, fails}
 use Rattle.outcome.specs.declared.Part.{Part}
 use Rattle.outcome.specs.declared.Part.TheVariants.{Went, Ended, Refused, Register, Join, Print, More}
 use Rattle.outcome.specs.declared.Stepped.{Stepped}
@@ -39,16 +43,7 @@ module _ {x : Running} {n : ℕ} {code places : List ℕ} {b : St.Bytes} where
   pub to_holding : (s : St.State) → Held x n code places b s → Holding b s
   to_holding s h = h.holding
 
--- a byte that is none of these
-abbrev pub NoneOf : ℕ → List ℕ → Type 0
-NoneOf b [] = Unit {0}
-NoneOf b (k ∷ ks) = (b ≡ k → ⊥) × NoneOf b ks
-
--- the opcodes that the dispatcher knows
-abbrev pub dispatched : List ℕ
-dispatched = 0 ∷ 1 ∷ 2 ∷ 10 ∷ 11 ∷ 12 ∷ 13 ∷ 14 ∷ 15 ∷ 20 ∷ 21 ∷ 22 ∷ 23 ∷ 24 ∷ 25 ∷ 30 ∷ 31 ∷ 32 ∷ 33 ∷ 34 ∷ 35 ∷ 36 ∷ 37 ∷ 38 ∷ 39 ∷ 40 ∷ 41 ∷ 42 ∷ 51 ∷ 70 ∷ 72 ∷ 73 ∷ 74 ∷ 75 ∷ 76 ∷ 80 ∷ 81 ∷ 255 ∷ []
-
--- An instruction that is left whole is one that the dispatcher does not know.
+-- An instruction that is left whole leaves the stacks as they stood.
 abbrev pub KeptBy : Running → Part → Depths → List ℕ → List ℕ → Type 0
 KeptBy x Went d w w' = KeptOf Went d w w'
 KeptBy x (Ended e) d w w' = KeptOf (Ended e) d w w'
@@ -56,7 +51,7 @@ KeptBy x (Refused q) d w w' = KeptOf (Refused q) d w w'
 KeptBy x (Register i t) d w w' = KeptOf (Register i t) d w w'
 KeptBy x (Join a b) d w w' = KeptOf (Join a b) d w w'
 KeptBy x (Print k) d w w' = KeptOf (Print k) d w w'
-KeptBy x (More b) d w w' = (w' ≡ w) × View.Ready d w × Runs x d w × NoneOf b dispatched × (b < 256)
+KeptBy x (More op) d w w' = (w' ≡ w) × View.Ready d w × Runs x d w
 
 pub record Dispatches (H : St.State → Type 0) (x : Running) (p : Program) (d : Depths) (w : List ℕ) (r : Stepped) (w' : List ℕ) : Type 0 where
   pub goes : (s : St.State) → H s → Tells r.how r.depths w' s (out p (View.on_stacks d w s))
@@ -79,9 +74,9 @@ module _ {H : St.State → Type 0} {x : Running} {p : Program} {d : Depths} {w w
   pub by_any : Meets Any p d w r w' → Dispatches H x p d w r w'
   by_any m = record { goes = λ s h. m.goes s tt; kept = kept_by x r.how r.depths w w' m.kept }
 
-pub by_more : {H : St.State → Type 0} {x : Running} {b : ℕ} {d : Depths} {w : List ℕ} {r : Stepped} → View.Ready d w → Runs x d w → NoneOf b dispatched → b < 256 → r ≡ stepped d (More b)
-    → Dispatches H x (I.instruction b) d w r w
-by_more {H} {x} {b} {d} {w} a q n l e = subst (λ (y : Stepped). Dispatches H x (I.instruction b) d w y w) (sym e) (record { goes = λ s h. refl; kept = (refl, a, q, n, l) })
+pub by_more : {H : St.State → Type 0} {x : Running} {op : Deferred} {d : Depths} {w : List ℕ} {r : Stepped} → View.Ready d w → Runs x d w → r ≡ stepped d (More op)
+    → Dispatches H x (deferred op) d w r w
+by_more {H} {x} {op} {d} {w} a q e = subst (λ (y : Stepped). Dispatches H x (deferred op) d w y w) (sym e) (record { goes = λ s h. refl; kept = (refl, a, q) })
 
 -- A STEP: the machine's program for the state that stands
 pub record Steps (H : St.State → Type 0) (x : Running) (d : Depths) (w : List ℕ) (r : Stepped) (w' : List ℕ) : Type 0 where
@@ -136,13 +131,19 @@ module _ {H : St.State → Type 0} {x : Running} {n : ℕ} {code : List ℕ} {d 
         kept = tt;
       })
 
-  -- an opcode is begun
-  pub step_go : {b : ℕ} {e : Depths} {r : Stepped} {w' : List ℕ} → f ≡ Some (b, e) → Dispatches H x (I.instruction b) e w r w' → Steps H x d w r w'
-  step_go {b} {e} {r} {w'} g m =
+  -- an opcode is begun, whose program is p
+  pub step_go : {b : ℕ} {p : Program} {e : Depths} {r : Stepped} {w' : List ℕ} → f ≡ Some (b, e) → I.instruction b ≡ p → Dispatches H x p e w r w' → Steps H x d w r w'
+  step_go {b} {p} {e} {r} {w'} g i m =
       let l : d.ip + 1 ≤ x.shape.size = (got k g).2 in
       record {
         goes = λ s h. subst (Tells r.how r.depths w' s)
             (sym (ap (λ (p : Program). out p (View.on_stacks d w s)) (body_go q s (c s h) (omega (arith, l)))
-            ∙ k.goes w q s (c s h) I.instruction ∙ ap (λ (u : Option (ℕ × Depths)). fetch_then u I.instruction x d w s) g)) (m.goes s h);
+            ∙ k.goes w q s (c s h) I.instruction ∙ ap (λ (u : Option (ℕ × Depths)). fetch_then u I.instruction x d w s) g
+            ∙ ap (λ (p : Program). out p (View.on_stacks e w s)) i)) (m.goes s h);
         kept = m.kept;
       }
+
+  -- a byte that names no instruction
+  pub step_unknown : {b k : ℕ} {e : Depths} {r : Stepped} → f ≡ Some (b, e) → I.instruction b ≡ end (failed (unknown_opcode b)) → k ≡ b → r ≡ stepped e (Ended (Err (UnknownOpcode k)))
+      → Steps H x d w r w
+  step_unknown {b} {k} {e} {r} g i z h = step_go g i (by_any (subst (λ (n : ℕ). Meets Any (end (failed (unknown_opcode n))) e w r w) z (fails {e = UnknownOpcode k} h)))

@@ -1,14 +1,17 @@
 //! Dispatch of the instructions that change nothing but the stacks and are run most, and a step as far as it is one on the stacks.
 #![tactic(auto)]
 
-ghost use Rattle.std.specs.Prelude.{◌≡◌, ◌≤◌, ◌<◌, length};
-ghost use Rattle.machine.specs.Instruction.{instruction};
+ghost use Rattle.std.specs.Prelude.{◌≡◌, ◌≤◌, length};
 ghost use Rattle.stacks.specs.View.{Ready};
 ghost use Rattle.fetch.specs.Running.{Runs};
+ghost use Rattle.opcode.specs.Programs.{instruction_of};
+ghost use Rattle.outcome.specs.Meets.{stepped};
+ghost use Rattle.outcome.specs.declared.Part.TheVariants.{More};
 ghost use Rattle.dispatch.specs.Dispatch.{Dispatches, Steps, Held};
 
 use fetch::Running;
-use outcome::{Part, Stepped, left_to_do, went};
+use opcode::{Change, Deferred, Lookup, Opcode};
+use outcome::{Part, Stepped, failed, left_to_do, went};
 use readops::constants;
 use stackops::operators::{
     BitAnd, BitOr, BitXor, Div, Gt, GtEq, Lt, LtEq, Mod, Mul, ShiftLeft, ShiftRight, Sub,
@@ -16,10 +19,18 @@ use stackops::operators::{
 use stackops::{arithmetic, comparison, control, locals};
 use stacks::Depths;
 use texts::Texts;
+use value::JsVmError;
+
+// Left whole.
+fn defer(op: Deferred, d: Depths) -> Stepped
+    ensures { result ≡ stepped d (More op) }
+{
+    left_to_do(Part::More(op), d)
+}
 
 // The instructions on the stacks that are run most, in one place; the others are left whole to `finish`.
 pub fn execute(
-    op: usize,
+    op: Opcode,
     x: Running,
     d: Depths,
     code: &[u8],
@@ -31,49 +42,57 @@ pub fn execute(
     requires ready { Ready d stacks.old }
     requires runs { Runs x d stacks.old }
     requires n_in_bounds { n ≤ length code.now }
-    requires op_bound { op < 256 }
-    ensures { Dispatches (Held x n code.now places.now texts.now) x (instruction op) d stacks.old result stacks.new }
+    ensures { Dispatches (Held x n code.now places.now texts.now) x (instruction_of op) d stacks.old result stacks.new }
 {
     match op {
-        0 => constants::load_const(x, d, code, n, places, stacks),
-        1 => locals::load_local(x, d, code, n, stacks),
-        2 => locals::store_local(x, d, code, n, stacks),
-        10 => constants::add(d, texts, stacks),
-        11 => arithmetic::compute::<Sub>(d, texts, stacks),
-        12 => arithmetic::compute::<Mul>(d, texts, stacks),
-        13 => arithmetic::compute::<Div>(d, texts, stacks),
-        14 => arithmetic::compute::<Mod>(d, texts, stacks),
-        15 => arithmetic::neg(d, texts, stacks),
-        20 => arithmetic::not(d, texts, stacks),
-        21 => arithmetic::compute::<BitAnd>(d, texts, stacks),
-        22 => arithmetic::compute::<BitOr>(d, texts, stacks),
-        23 => arithmetic::compute::<BitXor>(d, texts, stacks),
-        24 => arithmetic::compute::<ShiftLeft>(d, texts, stacks),
-        25 => arithmetic::compute::<ShiftRight>(d, texts, stacks),
-        30 => comparison::equality::<false, true>(d, texts, stacks),
-        31 => comparison::equality::<true, true>(d, texts, stacks),
-        32 => comparison::equality::<false, false>(d, texts, stacks),
-        33 => comparison::equality::<true, false>(d, texts, stacks),
-        34 => comparison::compare::<Lt>(d, texts, stacks),
-        35 => comparison::compare::<Gt>(d, texts, stacks),
-        36 => comparison::compare::<LtEq>(d, texts, stacks),
-        37 => comparison::compare::<GtEq>(d, texts, stacks),
-        38 => comparison::logical::<true>(d, texts, stacks),
-        39 => comparison::logical::<false>(d, texts, stacks),
-        40 => control::jump(x, d, code, n),
-        41 => control::jump_if::<false>(x, d, code, n, texts, stacks),
-        42 => control::jump_if::<true>(x, d, code, n, texts, stacks),
-        51 => control::return_value(d, stacks),
-        70 => locals::get_this(d, stacks),
-        72 => comparison::never(d, stacks),
-        73 => comparison::never(d, stacks),
-        74 => control::throw(d, stacks),
-        75 => control::enter_try(x, d, code, n, stacks),
-        76 => control::leave_try(d),
-        80 => locals::pop(d, stacks),
-        81 => locals::dup(d, stacks),
-        255 => control::halt(d, stacks),
-        _ => left_to_do(Part::More(op), d),
+        Opcode::LoadConst => constants::load_const(x, d, code, n, places, stacks),
+        Opcode::LoadLocal => locals::load_local(x, d, code, n, stacks),
+        Opcode::StoreLocal => locals::store_local(x, d, code, n, stacks),
+        Opcode::Add => constants::add(d, texts, stacks),
+        Opcode::Sub => arithmetic::compute::<Sub>(d, texts, stacks),
+        Opcode::Mul => arithmetic::compute::<Mul>(d, texts, stacks),
+        Opcode::Div => arithmetic::compute::<Div>(d, texts, stacks),
+        Opcode::Mod => arithmetic::compute::<Mod>(d, texts, stacks),
+        Opcode::Neg => arithmetic::neg(d, texts, stacks),
+        Opcode::Not => arithmetic::not(d, texts, stacks),
+        Opcode::BitAnd => arithmetic::compute::<BitAnd>(d, texts, stacks),
+        Opcode::BitOr => arithmetic::compute::<BitOr>(d, texts, stacks),
+        Opcode::BitXor => arithmetic::compute::<BitXor>(d, texts, stacks),
+        Opcode::ShiftLeft => arithmetic::compute::<ShiftLeft>(d, texts, stacks),
+        Opcode::ShiftRight => arithmetic::compute::<ShiftRight>(d, texts, stacks),
+        Opcode::Eq => comparison::equality::<false, true>(d, texts, stacks),
+        Opcode::StrictEq => comparison::equality::<true, true>(d, texts, stacks),
+        Opcode::NotEq => comparison::equality::<false, false>(d, texts, stacks),
+        Opcode::StrictNotEq => comparison::equality::<true, false>(d, texts, stacks),
+        Opcode::Lt => comparison::compare::<Lt>(d, texts, stacks),
+        Opcode::Gt => comparison::compare::<Gt>(d, texts, stacks),
+        Opcode::LtEq => comparison::compare::<LtEq>(d, texts, stacks),
+        Opcode::GtEq => comparison::compare::<GtEq>(d, texts, stacks),
+        Opcode::LogicalAnd => comparison::logical::<true>(d, texts, stacks),
+        Opcode::LogicalOr => comparison::logical::<false>(d, texts, stacks),
+        Opcode::Jump => control::jump(x, d, code, n),
+        Opcode::JumpIfFalse => control::jump_if::<false>(x, d, code, n, texts, stacks),
+        Opcode::JumpIfTrue => control::jump_if::<true>(x, d, code, n, texts, stacks),
+        Opcode::Return => control::return_value(d, stacks),
+        Opcode::GetThis => locals::get_this(d, stacks),
+        Opcode::Instanceof | Opcode::In => comparison::never(d, stacks),
+        Opcode::Throw => control::throw(d, stacks),
+        Opcode::EnterTry => control::enter_try(x, d, code, n, stacks),
+        Opcode::LeaveTry => control::leave_try(d),
+        Opcode::Pop => locals::pop(d, stacks),
+        Opcode::Dup => locals::dup(d, stacks),
+        Opcode::Halt => control::halt(d, stacks),
+        Opcode::LoadGlobal => defer(Deferred::Lookup(Lookup::LoadGlobal), d),
+        Opcode::StoreGlobal => defer(Deferred::Change(Change::StoreGlobal), d),
+        Opcode::LoadProperty => defer(Deferred::Lookup(Lookup::LoadProperty), d),
+        Opcode::StoreProperty => defer(Deferred::Change(Change::StoreProperty), d),
+        Opcode::LoadIndex => defer(Deferred::Lookup(Lookup::LoadIndex), d),
+        Opcode::StoreIndex => defer(Deferred::Change(Change::StoreIndex), d),
+        Opcode::Call => defer(Deferred::Lookup(Lookup::Call), d),
+        Opcode::CreateClosure => defer(Deferred::Lookup(Lookup::CreateClosure), d),
+        Opcode::CreateObject => defer(Deferred::Change(Change::CreateObject), d),
+        Opcode::CreateArray => defer(Deferred::Change(Change::CreateArray), d),
+        Opcode::Typeof => defer(Deferred::Change(Change::Typeof), d),
     }
 }
 
@@ -95,8 +114,11 @@ pub fn step(
     if d.frames == 0 {
         return control::halt(d, stacks);
     }
-    let Some((op, e)) = fetch::fetch(x, d, code, n) else {
+    let Some((b, e)) = fetch::fetch(x, d, code, n) else {
         return went(d.pop_frame(stacks));
     };
-    execute(op, x, e, code, n, places, stacks, texts)
+    match Opcode::from_byte(b as u8) {
+        Some(op) => execute(op, x, e, code, n, places, stacks, texts),
+        None => failed(JsVmError::UnknownOpcode(b as u8), e),
+    }
 }

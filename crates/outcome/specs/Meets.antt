@@ -21,6 +21,7 @@ use Rattle.value.specs.declared.Value.{Value}
 use Rattle.stacks.specs.declared.Depths.{Depths}
 use Rattle.stacks.specs.View
 use Rattle.stacks.specs.Laws.{with_operands, with_ip, jumped}
+use Rattle.opcode.specs.Programs.{deferred}
 use Rattle.outcome.specs.declared.Part.{Part}
 use Rattle.outcome.specs.declared.Part.TheVariants.{Went, Ended, Refused, Register, Join, Print, More}
 use Rattle.outcome.specs.declared.Stepped.{Stepped}
@@ -53,7 +54,7 @@ Tells (Refused q) d w s o = o ≡ refused (space_of q)
 Tells (Register i t) d w s o = o ≡ out (registers i t) (View.on_stacks d w s)
 Tells (Join a b) d w s o = o ≡ out (joins (value_of a) (value_of b)) (View.on_stacks d w s)
 Tells (Print k) d w s o = o ≡ out (prints (View.arguments w (d.operands + 1) k)) (View.on_stacks d w s)
-Tells (More b) d w s o = o ≡ out (I.instruction b) (View.on_stacks d w s)
+Tells (More op) d w s o = o ≡ out (deferred op) (View.on_stacks d w s)
 
 -- A refusal leaves the words, and so does an instruction of which something is left to do. None is left whole.
 abbrev pub KeptOf : Part → Depths → List ℕ → List ℕ → Type 0

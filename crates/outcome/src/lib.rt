@@ -8,6 +8,7 @@ ghost use Rattle.stacks.specs.View.{Ready};
 ghost use Rattle.outcome.specs.Meets.{Meets, Any, stepped, settled_of, stopped_by, Pairs, underflow_of};
 ghost use Rattle.outcome.specs.declared.Part.TheVariants.{Went, Ended};
 
+use opcode::Deferred;
 use stacks::Depths;
 use value::{JsVmError, Space, Stop, Value};
 
@@ -21,7 +22,7 @@ pub enum Part {
     Register(u64, u64),
     Join(Value, Value),
     Print(usize),
-    More(usize),
+    More(Deferred),
 }
 
 // A refusal leaves what stood before the instruction, whatever the depths say.

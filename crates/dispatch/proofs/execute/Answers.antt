@@ -1,5 +1,11 @@
-use Rattle.dispatch.specs.Dispatch.{by_any}
+use Rattle.dispatch.specs.Dispatch.{by_meets, by_any, to_coded_text}
 use Rattle.dispatch.proofs.execute.Goals as goal
 
-pub returns-in-76 : goal.returns-in-76
-returns-in-76 c = rw c.in-76.is (by_any (c.leave_try.ensures c.args.stacks.now))
+pub returns-in-JumpIfFalse : goal.returns-in-JumpIfFalse
+returns-in-JumpIfFalse c = rw c.in-JumpIfFalse.is (by_meets to_coded_text c.jump_if.ensures)
+
+pub returns-in-JumpIfTrue : goal.returns-in-JumpIfTrue
+returns-in-JumpIfTrue c = rw c.in-JumpIfTrue.is (by_meets to_coded_text c.jump_if-in-JumpIfTrue.ensures)
+
+pub returns-in-LeaveTry : goal.returns-in-LeaveTry
+returns-in-LeaveTry c = rw c.in-LeaveTry.is (by_any (c.leave_try.ensures c.args.stacks.now))
