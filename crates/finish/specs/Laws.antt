@@ -5,16 +5,19 @@ use Rattle.machine.specs.Image as Im
 use Rattle.machine.specs.State as St
 use Rattle.machine.specs.State.{operand_limit}
 use Rattle.machine.specs.Program.{Program}
-use Rattle.machine.specs.Instruction as I
 use Rattle.machine.specs.Out.{Out, out}
+use Rattle.value.specs.Lists.{bytes_of}
 use Rattle.value.specs.Words.{value_of}
 use Rattle.value.specs.declared.Value.{Value}
 use Rattle.value.specs.declared.Space.{Space}
 use Rattle.texts.specs.Keeps.{text_limit}
-use Rattle.texts.specs.Sources.{InUse}
+use Rattle.texts.specs.Sources.{InUse, stores_of}
 use Rattle.image.specs.Load.{template_from}
 use Rattle.stacks.specs.View as Stacks
 use Rattle.stacks.specs.declared.Depths.{Depths}
+use Rattle.heap.specs.View.{Held, held_in}
+use Rattle.opcode.specs.Programs.{deferred}
+use Rattle.opcode.specs.declared.Deferred.{Deferred}
 use Rattle.outcome.specs.Meets as Part
 use Rattle.outcome.specs.Meets.{Meets, Any, stepped, registers, joins, prints}
 use Rattle.outcome.specs.declared.Part.{Part}
@@ -50,24 +53,24 @@ module _ {x : Running} {c : Counts} {g : Tables} where
   pub to_loaded : (s : St.State) → Ground x c g s → Loaded c.code g.code s
   to_loaded s h = record { code = h.code }
 
-  module _ {h t : List ℕ} where
-    pub looks_constants : (s : St.State) → Looks x c g h t s → Constants x c.code g.code g.places s
+  module _ {b : St.Bytes} {h : Held} where
+    pub looks_constants : (s : St.State) → Looks x c g b h s → Constants x c.code g.code g.places s
     looks_constants s l = to_constants s l.base
 
-    pub looks_objects : (s : St.State) → Looks x c g h t s → Objects c.code g.code c.text t c.sizes h s
-    looks_objects s l = record { texts = record { code = l.base.code; text = l.text }; objects = l.objects; properties = l.properties; globals = l.globals }
+    pub looks_objects : (s : St.State) → Looks x c g b h s → Objects b h s
+    looks_objects s l = record { holding = l.holding; objects = l.objects; properties = l.properties; globals = l.globals }
 
-    pub looks_named : (s : St.State) → Looks x c g h t s → Named x c.code g.code g.places c.text t c.sizes h s
+    pub looks_named : (s : St.State) → Looks x c g b h s → Named x c.code g.code g.places b h s
     looks_named s l = record { constants = looks_constants s l; objects = looks_objects s l }
 
-    pub looks_callable : (s : St.State) → Looks x c g h t s → Callable x c.code g.code g.places g.rows g.starts c.images c.sizes h s
+    pub looks_callable : (s : St.State) → Looks x c g b h s → Callable x c.code g.code g.places g.rows g.starts c.images h s
     looks_callable s l = record { coded = to_coded s l.base; functions = l.functions; templates = record { held = l.base.images } }
 
   -- under the stores
-  pub looks_below : (m : Mem) (s : St.State) → Ground x c g s → Looks x c g m.heap m.text (below c m s)
+  pub looks_below : (m : Mem) (s : St.State) → Ground x c g s → Looks x c g (stores_of g.code c.code m.text c.text) (held_in c.sizes m.heap) (below c m s)
   looks_below m s h = record {
     base = record { code = h.code; images = h.images; known = h.known };
-    text = refl;
+    holding = record { bytes = ap (λ (k : List ℕ). record { code = k; text = bytes_of m.text c.text }) h.code };
     functions = refl;
     objects = refl;
     properties = refl;
@@ -89,7 +92,7 @@ module _ {h : Part} {d : Depths} {w : List ℕ} where
   pub ready_print : {k : ℕ} → h ≡ Print k → LeftReady h d w → Stacks.Ready d w × (d.operands + 1 + k ≤ operand_limit)
   ready_print g l = subst (λ (p : Part). LeftReady p d w) g l
 
-  pub ready_more : {x : Running} {b : ℕ} → h ≡ More b → LeftBy x h d w → MoreReady b x d w
+  pub ready_more : {x : Running} {op : Deferred} → h ≡ More op → LeftBy x h d w → MoreReady x d w
   ready_more {x} g l = subst (λ (p : Part). LeftBy x p d w) g l
 
 pub left_of : (h : Part) (d : Depths) (w w' : List ℕ) → Part.KeptOf h d w w' → LeftReady h d w'
@@ -145,7 +148,7 @@ module _ {H : St.State → Type 0} {c : Counts} {r : Stepped} where
   done_print {m} {m'} {t} e a = as_part e (record { goes = a.goes; kept = λ w k. kept_under t.how c r.depths m m' w k.0 a.kept })
 
   -- none is left whole
-  pub done_more : {m m' : Mem} {t : Turned} {b : ℕ} → r.how ≡ More b → LeftReady r.how r.depths m.stacks → Completes H c m r t m'
+  pub done_more : {m m' : Mem} {t : Turned} {op : Deferred} → r.how ≡ More op → LeftReady r.how r.depths m.stacks → Completes H c m r t m'
   done_more {m} e l = absurd (subst (λ (p : Part). LeftReady p r.depths m.stacks) e l)
 
 -- THE LAW of an instruction of which a part is done on the stacks
@@ -166,7 +169,7 @@ tells_steady (How-as-Refused q) c k m s o e = e
 
 -- a part that is not the whole
 abbrev pub Rest : Part → Type 0
-Rest h = (b : ℕ) → h ≡ More b → ⊥
+Rest h = (op : Deferred) → h ≡ More op → ⊥
 
 pub left_rest : (x : Running) (h : Part) (d : Depths) (w : List ℕ) → Rest h → LeftBy x h d w → LeftReady h d w
 left_rest x Went d w n l = l
@@ -194,15 +197,15 @@ module _ {x : Running} {c : Counts} {g : Tables} {m m' : Mem} {t : Turned} where
     steady = (refl, refl);
   })
 
-  whole : {b : ℕ} {d : Depths} → Turns (Ground x (with_depths d c) g) (I.instruction b) (with_depths d c) m t m' → Finishes (Ground x c g) x c m (stepped d (More b)) (steady_of c t) m'
-  whole {b} {d} a = record {
-    goes = λ s h. tells_steady t.how c t.counts m' s (out (I.instruction b) (Stacks.on_stacks d m.stacks (below c m s)))
+  whole : {op : Deferred} {d : Depths} → Turns (Ground x (with_depths d c) g) (deferred op) (with_depths d c) m t m' → Finishes (Ground x c g) x c m (stepped d (More op)) (steady_of c t) m'
+  whole {op} {d} a = record {
+    goes = λ s h. tells_steady t.how c t.counts m' s (out (deferred op) (Stacks.on_stacks d m.stacks (below c m s)))
         (a.goes s (record { code = h.code; images = h.images; known = h.known }));
     kept = λ w k. kept_under t.how c d m m' w k.0 a.kept;
     steady = (refl, refl);
   }
 
-  pub finish_more : {r : Stepped} {u : Turned} {b : ℕ} → r.how ≡ More b → Turns (Ground x (with_depths r.depths c) g) (I.instruction b) (with_depths r.depths c) m t m' → u ≡ steady_of c t
+  pub finish_more : {r : Stepped} {u : Turned} {op : Deferred} → r.how ≡ More op → Turns (Ground x (with_depths r.depths c) g) (deferred op) (with_depths r.depths c) m t m' → u ≡ steady_of c t
       → Finishes (Ground x c g) x c m r u m'
   finish_more {r} f a e =
       subst (λ (y : Turned). Finishes (Ground x c g) x c m r y m') (sym e)

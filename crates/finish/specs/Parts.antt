@@ -1,8 +1,7 @@
 -- What an instruction leaves to do with the other stores. Assumes nothing.
-use Rattle.std.specs.Prelude.{ℕ, ◌+◌, ◌≤◌, ◌<◌, List, [], ◌∷◌, ◌≡◌}
+use Rattle.std.specs.Prelude.{ℕ, ◌+◌, ◌≤◌, List, ◌≡◌}
 use Rattle.machine.specs.State as St
 use Rattle.machine.specs.State.{operand_limit}
-use Rattle.machine.specs.Instruction as I
 use Rattle.machine.specs.Out.{Out, went, ended, refused, out}
 use Rattle.value.specs.Errors.{space_of}
 use Rattle.value.specs.Lists.{bytes_of}
@@ -10,15 +9,16 @@ use Rattle.value.specs.Words.{value_of}
 use Rattle.stacks.specs.View as Stacks
 use Rattle.stacks.specs.declared.Depths.{Depths}
 use Rattle.image.specs.View.{images_of}
-use Rattle.heap.specs.View.{functions_of, objects_of, properties_of, globals_of}
+use Rattle.heap.specs.View.{Held}
+use Rattle.opcode.specs.Programs.{deferred}
 use Rattle.outcome.specs.Meets.{end_of, registers, joins, prints}
 use Rattle.outcome.specs.Meets as Part
 use Rattle.outcome.specs.declared.Part.{Part}
 use Rattle.outcome.specs.declared.Part.TheVariants.{Went, Ended, Refused, Register, Join, Print, More}
 use Rattle.outcome.specs.declared.Stepped.{Stepped}
 use Rattle.fetch.specs.declared.Running.{Running}
-use Rattle.fetch.specs.Running.{Runs, Known}
-use Rattle.dispatch.specs.Dispatch.{KeptBy, NoneOf, dispatched}
+use Rattle.fetch.specs.Running.{Runs, Known, Holding}
+use Rattle.dispatch.specs.Dispatch.{KeptBy}
 use Rattle.heapops.specs.declared.Counts.{Counts}
 use Rattle.heapops.specs.declared.Turned.{Turned}
 use Rattle.heapops.specs.Turns.{Mem, mem, below, Tells, KeptOf}
@@ -31,7 +31,7 @@ part_out (Refused q) d w s = refused (space_of q)
 part_out (Register i t) d w s = out (registers i t) (Stacks.on_stacks d w s)
 part_out (Join a b) d w s = out (joins (value_of a) (value_of b)) (Stacks.on_stacks d w s)
 part_out (Print k) d w s = out (prints (Stacks.arguments w (d.operands + 1) k)) (Stacks.on_stacks d w s)
-part_out (More b) d w s = out (I.instruction b) (Stacks.on_stacks d w s)
+part_out (More op) d w s = out (deferred op) (Stacks.on_stacks d w s)
 
 pub told : (h : Part) (d : Depths) (w : List ℕ) (s : St.State) (o : Out) → Part.Tells h d w s o → o ≡ part_out h d w s
 told Went d w s o e = e
@@ -58,14 +58,14 @@ pub record Ground (x : Running) (c : Counts) (g : Tables) (s : St.State) : Type 
   pub images : s.images ≡ images_of g.code g.places g.rows g.starts c.images
   pub known : Known g.rows g.starts c.images x
 
--- and the heap and the text
-pub record Looks (x : Running) (c : Counts) (g : Tables) (h t : List ℕ) (s : St.State) : Type 0 where
+-- and these texts, functions, objects, properties and globals
+pub record Looks (x : Running) (c : Counts) (g : Tables) (b : St.Bytes) (h : Held) (s : St.State) : Type 0 where
   pub base : Ground x c g s
-  pub text : s.text ≡ bytes_of t c.text
-  pub functions : s.functions ≡ functions_of h c.sizes.functions
-  pub objects : s.objects ≡ objects_of h c.sizes.objects
-  pub properties : s.properties ≡ properties_of h c.sizes.properties
-  pub globals : s.globals ≡ globals_of h c.sizes.globals
+  pub holding : Holding b s
+  pub functions : s.functions ≡ h.functions
+  pub objects : s.objects ≡ h.objects
+  pub properties : s.properties ≡ h.properties
+  pub globals : s.globals ≡ h.globals
 
 -- what an answer about the stacks leaves ready for the rest
 abbrev pub LeftReady : Part → Depths → List ℕ → Type 0
@@ -77,18 +77,9 @@ LeftReady (Join a b) d w = Stacks.Ready d w
 LeftReady (Print k) d w = Stacks.Ready d w × (d.operands + 1 + k ≤ operand_limit)
 LeftReady (More b) d w = ⊥
 
-pub record MoreReady (b : ℕ) (x : Running) (d : Depths) (w : List ℕ) : Type 0 where
+pub record MoreReady (x : Running) (d : Depths) (w : List ℕ) : Type 0 where
   pub ready : Stacks.Ready d w
   pub runs : Runs x d w
-  pub none : NoneOf b dispatched
-  pub small : b < 256
-
--- the opcodes of the instructions that change other stores, and of those that read them
-abbrev pub changing : List ℕ
-changing = 4 ∷ 6 ∷ 8 ∷ 60 ∷ 61 ∷ 71 ∷ []
-
-abbrev pub reading : List ℕ
-reading = 3 ∷ 5 ∷ 7 ∷ 50 ∷ 52 ∷ []
 
 abbrev pub LeftBy : Running → Part → Depths → List ℕ → Type 0
 LeftBy x Went d w = LeftReady Went d w
@@ -97,7 +88,7 @@ LeftBy x (Refused q) d w = LeftReady (Refused q) d w
 LeftBy x (Register i t) d w = LeftReady (Register i t) d w
 LeftBy x (Join a b) d w = LeftReady (Join a b) d w
 LeftBy x (Print k) d w = LeftReady (Print k) d w
-LeftBy x (More b) d w = MoreReady b x d w
+LeftBy x (More op) d w = MoreReady x d w
 
 abbrev pub steady_of : Counts → Turned → Turned
 steady_of c t = record { counts = record { depths = t.counts.depths; sizes = t.counts.sizes; code = c.code; images = c.images; text = t.counts.text; output = t.counts.output }; how = t.how }

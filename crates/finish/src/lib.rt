@@ -1,23 +1,21 @@
 //! What an instruction leaves to do with the other stores, and the instructions that the dispatcher leaves whole.
 #![tactic(auto)]
 
-ghost use Rattle.std.specs.Prelude.{◌≡◌, ◌≤◌, length};
-ghost use Rattle.machine.specs.Instruction.{instruction};
+ghost use Rattle.std.specs.Prelude.{◌≡◌, ℕ, ◌≤◌, List, length};
 ghost use Rattle.texts.specs.Keeps.{text_limit, output_limit};
-ghost use Rattle.texts.specs.Sources.{InUse};
+ghost use Rattle.opcode.specs.Programs.{deferred, looking_up, changing};
 ghost use Rattle.outcome.specs.Meets.{Meets};
 ghost use Rattle.heap.specs.View.{Sized};
-ghost use Rattle.dispatch.specs.Dispatch.{NoneOf};
 ghost use Rattle.heapops.specs.Turns.{Turns, mem, Loaded};
-ghost use Rattle.finish.specs.Parts.{Completes, Finishes, Ground, LeftReady, LeftBy, MoreReady, Looks, changing, tables, steady_of};
+ghost use Rattle.finish.specs.Parts.{Completes, Finishes, Ground, LeftReady, LeftBy, MoreReady, Looks, tables, steady_of};
 
 use fetch::Running;
 use heap::Heap;
 use heapops::{Counts, Turned, create, joining, print, stores};
+use opcode::{Change, Deferred, Lookup};
 use outcome::{Part, Stepped};
 use readops::{call, constants, lookups};
 use texts::Texts;
-use value::JsVmError;
 
 // Whatever an instruction does, the code and the images stay.
 fn steady(c: Counts, t: Turned) -> Turned
@@ -60,42 +58,64 @@ pub fn complete(
     }
 }
 
-// The instructions that read other stores, where the opcode is none of the others that are known.
-fn look_up<'a>(
-    op: usize,
+// The instructions that read other stores.
+fn look_up(
+    op: Lookup,
     x: Running,
     c: Counts,
-    code: &'a [u8],
+    code: &[u8],
     places: &[u16],
     rows: &[u16],
     starts: &[u16],
-    heap: &[u64],
-    text: &'a [u8],
+    texts: &Texts,
+    heap: &Heap,
     stacks: &mut [u64],
 ) -> Stepped
-    requires more_ready { MoreReady op x c.depths stacks.old }
-    requires none_of { NoneOf op changing }
-    requires in_use { InUse code.now c.code text.now c.text }
-    requires sized { Sized c.sizes heap.now }
-    ensures { Meets (Looks x c (tables code.now places.now rows.now starts.now) heap.now text.now) (instruction op) c.depths stacks.old result stacks.new }
+    requires more_ready { MoreReady x c.depths stacks.old }
+    requires code_in_bounds { c.code ≤ length code.now }
+    ensures { Meets (Looks x c (tables code.now places.now rows.now starts.now) texts.now heap.now) (looking_up op) c.depths stacks.old result stacks.new }
 {
     let d = c.depths;
     let n = c.code;
-    let texts = Texts::new(code, n, text, c.text);
-    let held = Heap::new(c.sizes, heap);
     match op {
-        3 => lookups::load_global(x, d, code, n, places, &texts, &held, stacks),
-        5 => lookups::load_property(x, d, code, n, places, &texts, &held, stacks),
-        7 => lookups::load_index(d, &texts, &held, stacks),
-        50 => call::call(x, d, code, n, rows, starts, c.images, &held, stacks),
-        52 => constants::create_closure(x, d, code, n, places, stacks),
-        _ => outcome::failed(JsVmError::UnknownOpcode(op as u8), d),
+        Lookup::LoadGlobal => lookups::load_global(x, d, code, n, places, texts, heap, stacks),
+        Lookup::LoadProperty => lookups::load_property(x, d, code, n, places, texts, heap, stacks),
+        Lookup::LoadIndex => lookups::load_index(d, texts, heap, stacks),
+        Lookup::Call => call::call(x, d, code, n, rows, starts, c.images, heap, stacks),
+        Lookup::CreateClosure => constants::create_closure(x, d, code, n, places, stacks),
     }
 }
 
-// An instruction that the dispatcher does not know. The depths are those behind its opcode.
+// The instructions that change other stores.
+fn change(
+    op: Change,
+    x: Running,
+    c: Counts,
+    code: &[u8],
+    places: &[u16],
+    stacks: &mut [u64],
+    heap: &mut [u64],
+    text: &mut [u8],
+) -> Turned
+    requires more_ready { MoreReady x c.depths stacks.old }
+    requires code_in_bounds { c.code ≤ length code.now }
+    requires sized { Sized c.sizes heap.old }
+    requires text_le_text_limit { (c.text ≤ text_limit) × (length text.old ≡ text_limit) }
+    ensures { (rows starts o : List ℕ) → Turns (Ground x c (tables code.now places.now rows starts)) (changing op) c (mem stacks.old heap.old text.old o) result (mem stacks.new heap.new text.new o) }
+{
+    match op {
+        Change::StoreGlobal => stores::store_global(x, c, code, places, stacks, heap, text),
+        Change::StoreProperty => stores::store_property(x, c, code, places, stacks, heap, text),
+        Change::StoreIndex => stores::store_index(c, code, stacks, heap, text),
+        Change::CreateObject => create::create_object(c, stacks, heap),
+        Change::CreateArray => create::create_array(x, c, code, stacks, heap, text),
+        Change::Typeof => joining::type_of(c, stacks, text),
+    }
+}
+
+// The depths are those behind the opcode.
 pub fn execute_more(
-    op: usize,
+    op: Deferred,
     x: Running,
     c: Counts,
     code: &[u8],
@@ -107,24 +127,21 @@ pub fn execute_more(
     text: &mut [u8],
     output: &mut [u8],
 ) -> Turned
-    requires more_ready { MoreReady op x c.depths stacks.old }
+    requires more_ready { MoreReady x c.depths stacks.old }
     requires code_in_bounds { c.code ≤ length code.now }
     requires sized { Sized c.sizes heap.old }
     requires text_le_text_limit { (c.text ≤ text_limit) × (length text.old ≡ text_limit) }
     requires output_le_output_limit { (c.output ≤ output_limit) × (length output.old ≡ output_limit) }
-    ensures { Turns (Ground x c (tables code.now places.now rows.now starts.now)) (instruction op) c (mem stacks.old heap.old text.old output.old) result (mem stacks.new heap.new text.new output.new) }
+    ensures { Turns (Ground x c (tables code.now places.now rows.now starts.now)) (deferred op) c (mem stacks.old heap.old text.old output.old) result (mem stacks.new heap.new text.new output.new) }
 {
     match op {
-        4 => stores::store_global(x, c, code, places, stacks, heap, text),
-        6 => stores::store_property(x, c, code, places, stacks, heap, text),
-        8 => stores::store_index(c, code, stacks, heap, text),
-        60 => create::create_object(c, stacks, heap),
-        61 => create::create_array(x, c, code, stacks, heap, text),
-        71 => joining::type_of(c, stacks, text),
-        _ => {
-            let r = look_up(op, x, c, code, places, rows, starts, heap, text, stacks);
+        Deferred::Lookup(op) => {
+            let texts = Texts::new(code, c.code, text, c.text);
+            let held = Heap::new(c.sizes, heap);
+            let r = look_up(op, x, c, code, places, rows, starts, &texts, &held, stacks);
             complete(r, c, code, stacks, heap, text, output)
         }
+        Deferred::Change(op) => change(op, x, c, code, places, stacks, heap, text),
     }
 }
 

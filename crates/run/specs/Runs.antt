@@ -228,7 +228,7 @@ left_by x (Part-as-Refused q) d w w' k = tt
 left_by x (Register i t) d w w' k = subst (λ (u : List ℕ). Stacks.Ready d u) (sym k.0) k.1
 left_by x (Join a b) d w w' k = subst (λ (u : List ℕ). Stacks.Ready d u) (sym k.0) k.1
 left_by x (Print n) d w w' k = subst (λ (u : List ℕ). Stacks.Ready d u × (d.operands + 1 + n ≤ St.operand_limit)) (sym k.0) (k.1, k.2)
-left_by x (More b) d w w' k = subst (λ (u : List ℕ). LeftBy x (More b) d u) (sym k.0) (record { ready = k.1; runs = k.2; none = k.3; small = k.4 })
+left_by x (More b) d w w' k = subst (λ (u : List ℕ). LeftBy x (More b) d u) (sym k.0) (record { ready = k.1; runs = k.2 })
 
 -- THE CONTRACT OF A STEP over all stores: it comes to what the answer says. A refusal leaves the state.
 pub record Takes (x : Running) (c : Counts) (g : Tables) (m : Mem) (t : Turned) (m' : Mem) : Type 0 where
