@@ -9,16 +9,18 @@ pub mod numbers;
 
 ghost use Rattle.std.specs.Prelude.{◌≡◌, ℕ, ◌+◌, ◌*◌, ◌≤◌, ◌<◌, SomeIff, length, get_or};
 ghost use Rattle.machine.specs.State.{operand_limit};
-ghost use Rattle.machine.specs.Instruction.{instruction, pushed};
+ghost use Rattle.machine.specs.Instruction.{pushed};
 ghost use Rattle.value.specs.Words.{value_of, value_at};
 ghost use Rattle.stacks.specs.Layout.{stack_words};
 ghost use Rattle.stacks.specs.View.{Ready};
+ghost use Rattle.opcode.specs.Programs.{instruction_of};
 ghost use Rattle.outcome.specs.Meets.{Any};
 ghost use Rattle.readops.specs.Holds.{Constants};
-ghost use Rattle.quick.specs.Quickly.{quick_of, Quickly, QuickStep, Inside, Operand, Word};
+ghost use Rattle.quick.specs.Quickly.{quick_of, Quickly, QuickStep, Inside, Operand, DecodesAt, Word};
 ghost use Rattle.quick.specs.Stays.{Stays, InFrame, Stands};
 
 use fetch::Running;
+use opcode::Opcode;
 use stackops::operators::{Add, Div, Gt, GtEq, Lt, LtEq, Mul, Sub};
 use stacks::{Depths, FRAMES_AT, OPERAND_LIMIT, SLOTS_AT};
 use value::{Stop, Value};
@@ -65,6 +67,14 @@ pub fn byte_at(code: &[u8], at: usize) -> usize
     ensures { (result ≡ get_or code.now at 0) × (result < 256) }
 {
     usize::from(code[at])
+}
+
+// The instruction whose opcode is there, if the byte is one.
+pub fn opcode_at(code: &[u8], at: usize) -> Option<Opcode>
+    requires { at < length code.now }
+    ensures { DecodesAt code.now at result }
+{
+    Opcode::from_byte(code[at])
 }
 
 // `read_u16`
@@ -123,7 +133,7 @@ pub fn push_from(d: Depths, stacks: &mut [u64], source: &[u64], k: usize) -> Opt
 
 // i is the operand that follows the opcode, if it has one.
 fn execute(
-    op: usize,
+    op: Opcode,
     x: Running,
     y: Here,
     d: Depths,
@@ -136,29 +146,29 @@ fn execute(
     requires ready { Ready d stacks.old }
     requires in_frame { InFrame x y d stacks.old }
     requires operand { Operand x n code.now d i }
-    ensures quickly { Quickly (Constants x n code.now places.now) (instruction op) d stacks.old result stacks.new }
+    ensures quickly { Quickly (Constants x n code.now places.now) (instruction_of op) d stacks.old result stacks.new }
     ensures stays { Stays d stacks.old result stacks.new }
 {
     match op {
-        0 => moves::load_const(x, y, d, i, code, n, places, stacks),
-        1 => moves::load_local(x, y, d, i, code, n, stacks),
-        2 => moves::store_local(x, y, d, i, code, n, stacks),
-        10 => numbers::compute::<Add>(d, stacks),
-        11 => numbers::compute::<Sub>(d, stacks),
-        12 => numbers::compute::<Mul>(d, stacks),
-        13 => numbers::compute::<Div>(d, stacks),
-        34 => numbers::compare::<Lt>(d, stacks),
-        35 => numbers::compare::<Gt>(d, stacks),
-        36 => numbers::compare::<LtEq>(d, stacks),
-        37 => numbers::compare::<GtEq>(d, stacks),
-        40 => control::jump(x, d, i, code, n),
-        41 => control::jump_if::<false>(x, y, d, i, code, n, stacks),
-        42 => control::jump_if::<true>(x, y, d, i, code, n, stacks),
-        74 => control::throw(x, y, d, stacks),
-        75 => control::enter_try(x, y, d, i, code, n, stacks),
-        76 => control::leave_try(d),
-        80 => moves::pop(d),
-        81 => moves::dup(d, stacks),
+        Opcode::LoadConst => moves::load_const(x, y, d, i, code, n, places, stacks),
+        Opcode::LoadLocal => moves::load_local(x, y, d, i, code, n, stacks),
+        Opcode::StoreLocal => moves::store_local(x, y, d, i, code, n, stacks),
+        Opcode::Add => numbers::compute::<Add>(d, stacks),
+        Opcode::Sub => numbers::compute::<Sub>(d, stacks),
+        Opcode::Mul => numbers::compute::<Mul>(d, stacks),
+        Opcode::Div => numbers::compute::<Div>(d, stacks),
+        Opcode::Lt => numbers::compare::<Lt>(d, stacks),
+        Opcode::Gt => numbers::compare::<Gt>(d, stacks),
+        Opcode::LtEq => numbers::compare::<LtEq>(d, stacks),
+        Opcode::GtEq => numbers::compare::<GtEq>(d, stacks),
+        Opcode::Jump => control::jump(x, d, i, code, n),
+        Opcode::JumpIfFalse => control::jump_if::<false>(x, y, d, i, code, n, stacks),
+        Opcode::JumpIfTrue => control::jump_if::<true>(x, y, d, i, code, n, stacks),
+        Opcode::Throw => control::throw(x, y, d, stacks),
+        Opcode::EnterTry => control::enter_try(x, y, d, i, code, n, stacks),
+        Opcode::LeaveTry => control::leave_try(d),
+        Opcode::Pop => moves::pop(d),
+        Opcode::Dup => moves::dup(d, stacks),
         _ => None,
     }
 }
@@ -182,7 +192,7 @@ pub fn step(
     let p = d.ip;
     if p < y.last {
         let at = x.shape.at + p;
-        let op = byte_at(code, at);
+        let op = opcode_at(code, at)?;
         let i = word_at(code, at + 1);
         return execute(op, x, y, d.with_ip(p + 1), i, code, n, places, stacks);
     }

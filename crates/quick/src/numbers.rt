@@ -1,6 +1,7 @@
 //! Two operands that are numbers. The result stands where the older one stood: its kind is there already.
 ghost use Rattle.std.specs.Prelude.{◌≡◌, ◌+◌, ◌-◌, ◌*◌, ◌≤◌, ◌<◌, length, get_or, set};
-ghost use Rattle.value.specs.Words.{bit};
+ghost use Rattle.value.specs.Words.{bit, words_of};
+ghost use Rattle.value.specs.declared.Value.TheVariants.{Boolean};
 ghost use Rattle.stacks.specs.Laws.{with_operands};
 ghost use Rattle.stacks.specs.View.{Ready};
 ghost use Rattle.outcome.specs.Meets.{Any};
@@ -11,11 +12,7 @@ ghost use Rattle.quick.specs.Numbers.{FindsNumbers};
 use number::JsNumber;
 use stackops::operators::{Arithmetic, Comparison};
 use stacks::Depths;
-
-// The kinds of crate value.
-const BOOLEAN: u64 = 2;
-
-const NUMBER: u64 = 3;
+use value::Words;
 
 fn find_numbers(d: Depths, stacks: &[u64]) -> Option<usize>
     requires { Ready d stacks.now }
@@ -26,7 +23,7 @@ fn find_numbers(d: Depths, stacks: &[u64]) -> Option<usize>
         return None;
     }
     let k = 3 * (n - 2);
-    if stacks[k] != NUMBER || stacks[k + 3] != NUMBER {
+    if stacks[k] != Words::NUMBER || stacks[k + 3] != Words::NUMBER {
         return None;
     }
     Some(k)
@@ -53,9 +50,9 @@ fn put_number(d: Depths, stacks: &mut [u64], k: usize, v: JsNumber) -> Depths
 fn put_bool(d: Depths, stacks: &mut [u64], k: usize, v: bool) -> Depths
     requires { (k + 1 < length stacks.old) × (1 ≤ d.operands) }
     ensures value { result ≡ with_operands (d.operands - 1) d }
-    ensures stacks_after { stacks.new ≡ set (set stacks.old k BOOLEAN) (k + 1) (bit v) }
+    ensures stacks_after { stacks.new ≡ set (set stacks.old k (words_of (Boolean v)).kind) (k + 1) (bit v) }
 {
-    stacks[k] = BOOLEAN;
+    stacks[k] = Words::BOOLEAN;
     stacks[k + 1] = u64::from(v);
     d.with_operands(d.operands - 1)
 }
