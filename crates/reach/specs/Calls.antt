@@ -16,7 +16,7 @@ use Rattle.image.specs.declared.FunctionTemplate.{FunctionTemplate}
 use Rattle.stacks.specs.declared.Depths.{Depths}
 use Rattle.stacks.specs.View
 use Rattle.stacks.specs.Laws.{with_operands, with_ip, ready_ip}
-use Rattle.heap.specs.View.{function_in, functions_of}
+use Rattle.heap.specs.View.{held_in, function_in, functions_of}
 use Rattle.heap.specs.declared.Registered.{Registered}
 use Rattle.heap.specs.declared.Sizes.{Sizes}
 use Rattle.outcome.specs.Meets.{Meets, Any, any, after_look}
@@ -43,11 +43,11 @@ module _ {d e c : Depths} {w : List ℕ} {argc at : ℕ} (l : argc < d.operands)
   pub frame_ready : View.Ready d w → View.Ready c w × (c.operands + 1 + argc ≤ St.operand_limit)
   frame_ready r = call_ready {e = with_ip (d.ip + 1) d} (ready_ip (d.ip + 1) r) l a (b ∙ ap (with_operands at) f)
 
-  pub function_calls : {x : Running} {n : ℕ} {code places rows starts : List ℕ} {images : ℕ} {z : Sizes} {heap w' : List ℕ} {v : Value} {id : ℕ} {g : Registered} {q : Option Depths} (p : FunctionTemplate)
+  pub function_calls : {x : Running} {n : ℕ} {code places rows starts : List ℕ} {images : ℕ} (z : Sizes) (heap : List ℕ) {w' : List ℕ} {v : Value} {id : ℕ} {g : Registered} {q : Option Depths} (p : FunctionTemplate)
       → Fetches x n code d (Some (argc, (with_ip (d.ip + 1) d))) → Runs x d w → value_of v ≡ value_at w (3 * at) → v ≡ Function id
       → function_in (Some g) ≡ get_elem? (functions_of heap z.functions) id
       → ((code places : List ℕ) → template_from code places p ≡ slice_index_or (slice_index_or (images_of code places rows starts images) g.image []) g.template St.no_template)
       → Quickly Any (make (A.push_frame g.image g.template (View.called w (c.operands + 1) argc p.param_count p.local_count)) next) c w q w'
-      → Quickly (Callable x n code places rows starts images z heap) I.Call d w q w'
-  function_calls {g = g} p fetched r t e h o m =
+      → Quickly (Callable x n code places rows starts images (held_in z heap)) I.Call d w q w'
+  function_calls z heap {g = g} p fetched r t e h o m =
       carry (λ y s. calls_function fetched r refl l a (b ∙ ap (with_operands at) f) t (Some g) (record { is = ap value_of e }) refl h (known argc p o s)) m

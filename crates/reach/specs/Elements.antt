@@ -25,7 +25,7 @@ use Rattle.stacks.specs.Laws.{with_operands, pop_took, pop_ready, push_holds}
 use Rattle.stacks.specs.View
 use Rattle.stacks.specs.declared.Depths.{Depths}
 use Rattle.heap.specs.Layout.{properties_at}
-use Rattle.heap.specs.View.{Sized, objects_of, kind_in}
+use Rattle.heap.specs.View.{held_in, Sized, objects_of, kind_in}
 use Rattle.heap.specs.Rows.{Finds}
 use Rattle.heap.specs.Finds.{pair_at, property_at, object_known}
 use Rattle.heap.specs.declared.Sizes.{Sizes}
@@ -127,17 +127,17 @@ module _ (z : Sizes) (m : ℕ) (text : List ℕ) {heap : List ℕ} {d : Depths} 
       let q = push_holds below w (lower_ready (omega arith) good) found w' (omega (arith, good.operands)) (subst (λ (i : ℕ). Holds w w' i found) place h) l in
       went_as (end ∙ ap (λ (i : ℕ). with_operands i d) (sym y)) (goes (settles q refl) q.ready)
 
-  loads : (n : ℕ) (code : List ℕ) → n ≤ length code → Quickly (Sure (Distinct z heap m text) (Objects n code m text z heap)) I.LoadIndex d w (Some e) w'
+  loads : (n : ℕ) (code : List ℕ) → n ≤ length code → Quickly (Sure (Distinct z heap m text) (Objects (stores_of code n text m) (held_in z heap))) I.LoadIndex d w (Some e) w'
   loads n code long =
       let key = N.format_js_number v in
       surely put
-      (λ D. carry (λ y p. loads_index (access_pair good two place acc) (as_value found) refl (spelled v row_loaded.short) (sym ((spelled v row_loaded.short).bytes (stores_of code n text m))) long
-      (λ c _. object_known (stores_of c n text m) heap z.objects z.properties id key (value_of (as_value found)) known
-      (property_at (stores_of c n text m) heap id key z.properties (Some j) (row_loaded.row.finds (D.pairs id key)) j (as_value found) refl (as_value_lem found)))
+      (λ D. carry (λ y p. loads_index (access_pair good two place acc) (as_value found) refl (spelled v row_loaded.short) (sym ((spelled v row_loaded.short).bytes (stores_of code n text m)))
+      (object_known (stores_of code n text m) heap z.objects z.properties id key (value_of (as_value found)) known
+      (property_at (stores_of code n text m) heap id key z.properties (Some j) (row_loaded.row.finds (D.pairs id key)) j (as_value found) refl (as_value_lem found)))
       (subst (λ (u : M.Value). Meets Any (I.pushed u) below w y w') (sym (as_value_lem found)) p)) put)
 
   pub index_loads : (n : ℕ)
-      → ((code : List ℕ) → n ≤ length code → Quickly (Sure (Distinct z heap m text) (Objects n code m text z heap)) I.LoadIndex d w (Some e) w') × Stays d w (Some e) w'
+      → ((code : List ℕ) → n ≤ length code → Quickly (Sure (Distinct z heap m text) (Objects (stores_of code n text m) (held_in z heap))) I.LoadIndex d w (Some e) w') × Stays d w (Some e) w'
   index_loads n = (loads n, stays_went (kept_within end (below_frames h.apart (omega (arith, good.operands)))))
 
 -- A number whose text is digits, and what an array takes it for

@@ -24,7 +24,7 @@ use Rattle.stacks.specs.Laws.{with_operands, with_ip, pop_took, ready_ip}
 use Rattle.stacks.specs.View
 use Rattle.stacks.specs.declared.Depths.{Depths}
 use Rattle.heap.specs.Layout.{properties_at, globals_at}
-use Rattle.heap.specs.View.{Sized, objects_of, kind_in}
+use Rattle.heap.specs.View.{held_in, Sized, objects_of, kind_in}
 use Rattle.heap.specs.Rows.{Finds}
 use Rattle.heap.specs.Finds.{stores, text_is, pair_is, named_kept, name_at, pair_at, global_at, property_at, object_known}
 use Rattle.heap.specs.declared.Sizes.{Sizes}
@@ -96,23 +96,23 @@ took {e} {w} r h = pop_took e w r (as_value (newest e w)) h (as_value_lem (newes
 pushed_as : {d : Depths} {w w' : List ℕ} {y : Stepped} (v : M.Value) → Meets Any (I.pushed v) d w y w' → Meets Any (I.pushed (value_of (as_value v))) d w y w'
 pushed_as {d} {w} {w'} {y} v m = subst (λ (u : M.Value). Meets Any (I.pushed u) d w y w') (sym (as_value_lem v)) m
 
-module _ {x : Running} {n : ℕ} {code places : List ℕ} {m : ℕ} {text : List ℕ} {z : Sizes} {heap : List ℕ} {d : Depths} {w : List ℕ} {i : ℕ}
+module _ (m : ℕ) (text : List ℕ) (z : Sizes) (heap : List ℕ) {x : Running} {n : ℕ} {code places : List ℕ} {d : Depths} {w : List ℕ} {i : ℕ}
     (f : Operand x n code d i) (q : Runs x d w) {at size : ℕ} (a : Names (constant_in x code places i) (Some (at, size))) {j : ℕ} where
   pub global_loads : {y : Option Depths} {w' : List ℕ} → Finds (name_at (bytes_of text m) heap (named code n at size)) z.globals (Some j)
-      → Quickly Any (I.pushed (value_at heap (globals_at + 6 * j + 3))) (with_ip (d.ip + 2) d) w y w' → Quickly (Named x n code places m text z heap) I.LoadGlobal d w y w'
+      → Quickly Any (I.pushed (value_at heap (globals_at + 6 * j + 3))) (with_ip (d.ip + 2) d) w y w' → Quickly (Named x n code places (stores_of code n text m) (held_in z heap)) I.LoadGlobal d w y w'
   global_loads h t =
       let v = value_at heap (globals_at + 6 * j + 3) in
       carry (λ y p. loads_global f q refl (spelled i a) refl (as_value v)
-      (λ b. global_at (stores b (bytes_of text m)) heap (named code n at size) z.globals (Some j) h j (as_value v) refl (as_value_lem v)) (pushed_as v p)) t
+      (global_at (stores_of code n text m) heap (named code n at size) z.globals (Some j) h j (as_value v) refl (as_value_lem v)) (pushed_as v p)) t
 
   pub property_loads : {y : Option Depths} {w' : List ℕ} {id : ℕ} {l : Depths} → View.Pops (with_ip (d.ip + 2) d) w (Some ((Object id), l)) → id < z.objects → n ≤ length code
       → Finds (pair_at (bytes_of text m) heap id (named code n at size)) z.properties (Some j)
-      → Quickly Any (I.pushed (value_at heap (properties_at + 6 * j + 3))) l w y w' → Quickly (Named x n code places m text z heap) I.LoadProperty d w y w'
+      → Quickly Any (I.pushed (value_at heap (properties_at + 6 * j + 3))) l w y w' → Quickly (Named x n code places (stores_of code n text m) (held_in z heap)) I.LoadProperty d w y w'
   property_loads {id = id} o known long h k' =
       let v = value_at heap (properties_at + 6 * j + 3) in
-      carry (λ y s. loads_property f q refl (spelled i a) refl (as_value v) o refl long
-      (λ b _. object_known (stores_of b n text m) heap z.objects z.properties id (named code n at size) (value_of (as_value v)) known
-      (property_at (stores_of b n text m) heap id (named code n at size) z.properties (Some j) h j (as_value v) refl (as_value_lem v))) (pushed_as v s)) k'
+      carry (λ y s. loads_property f q refl (spelled i a) refl (as_value v) o refl
+      (object_known (stores_of code n text m) heap z.objects z.properties id (named code n at size) (value_of (as_value v)) known
+      (property_at (stores_of code n text m) heap id (named code n at size) z.properties (Some j) h j (as_value v) refl (as_value_lem v))) (pushed_as v s)) k'
 
 -- an object on top, behind the operand
 pub object_popped : {d e : Depths} {w : List ℕ} {p : ℕ} {v : Value} {id : ℕ} → View.Ready d w → e ≡ with_ip p d → (e.operands ≢ 0) → value_of v ≡ value_at w (3 * (e.operands - 1)) → v ≡ Object id

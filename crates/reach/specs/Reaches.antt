@@ -1,6 +1,6 @@
 -- What a quick instruction ensures that reads or writes more than the stacks. Assumes nothing.
 use Rattle.std.specs.Prelude.{◌≡◌, ℕ, ◌+◌, ◌<◌, List, length, slice_index, refl, Option, Some, None}
-use Rattle.std.proofs.Common.{ap, subst, ◌∙◌}
+use Rattle.std.proofs.Common.{ap, subst, ◌∙◌, sym}
 use Rattle.machine.specs.State as St
 use Rattle.machine.specs.Program.{Program}
 use Rattle.machine.specs.Instruction as I
@@ -9,6 +9,8 @@ use Rattle.machine.specs.Out.{went, out}
 use Rattle.stacks.specs.Laws.{with_ip}
 use Rattle.stacks.specs.View
 use Rattle.stacks.specs.declared.Depths.{Depths}
+use Rattle.texts.specs.Sources.{stores_of}
+use Rattle.heap.specs.View.{held_in}
 use Rattle.heap.specs.View as Heap
 use Rattle.heap.specs.declared.Sizes.{Sizes}
 use Rattle.opcode.specs.Programs.{instruction_of}
@@ -100,14 +102,14 @@ lifts {H} {K} {p} c {w} {w'} {h} {t} {q} o f k = record { told = lift_told H K p
 
 -- over a state that has the code and the images, and whose rows are distinct
 module _ {x : Running} {c : Counts} {g : Tables} {p : Program} {w w' h t : List ℕ} {q : Option Depths} where
-  pub load_lifts : {D : Type 0} → Quickly (Sure D (Named x c.code g.code g.places c.text t c.sizes h)) p c.depths w q w' → (o : List ℕ)
+  pub load_lifts : {D : Type 0} → Quickly (Sure D (Named x c.code g.code g.places (stores_of g.code c.code t c.text) (held_in c.sizes h))) p c.depths w q w' → (o : List ℕ)
       → Reaches (Sure D (Ground x c g)) p c (mem w h t o) q (mem w' h t o)
   load_lifts k o = lifts c o (λ s i. (looks_named (below c (mem w h t o) s) (looks_below (mem w h t o) s i.0), i.1)) k
 
   pub any_lifts : Quickly Any p c.depths w q w' → (o : List ℕ) → Reaches (Ground x c g) p c (mem w h t o) q (mem w' h t o)
   any_lifts k o = lifts c o (λ s i. tt) k
 
-  pub call_lifts : Quickly (Callable x c.code g.code g.places g.rows g.starts c.images c.sizes h) p c.depths w q w' → (o : List ℕ)
+  pub call_lifts : Quickly (Callable x c.code g.code g.places g.rows g.starts c.images (held_in c.sizes h)) p c.depths w q w' → (o : List ℕ)
       → Reaches (Ground x c g) p c (mem w h t o) q (mem w' h t o)
   call_lifts k o = lifts c o (λ s i. looks_callable (below c (mem w h t o) s) (looks_below (mem w h t o) s i)) k
 
@@ -115,7 +117,7 @@ pub store_lifts : {D : Type 0} {x : Running} {c : Counts} {g : Tables} {p : Prog
 store_lifts k = reach_weaken (λ s i. (to_constants s i.0, i.1)) k
 
 -- an element is looked up in the texts and the objects alone, and stored with the code alone
-pub index_lifts : {D : Type 0} {x : Running} {c : Counts} {g : Tables} {p : Program} {w w' h t : List ℕ} {q : Option Depths} → Quickly (Sure D (Objects c.code g.code c.text t c.sizes h)) p c.depths w q w'
+pub index_lifts : {D : Type 0} {x : Running} {c : Counts} {g : Tables} {p : Program} {w w' h t : List ℕ} {q : Option Depths} → Quickly (Sure D (Objects (stores_of g.code c.code t c.text) (held_in c.sizes h))) p c.depths w q w'
     → (o : List ℕ) → Reaches (Sure D (Ground x c g)) p c (mem w h t o) q (mem w' h t o)
 index_lifts {c = c} {w = w} {h = h} {t = t} k o = lifts c o (λ s i. ((looks_named (below c (mem w h t o) s) (looks_below (mem w h t o) s i.0)).objects, i.1)) k
 

@@ -5,7 +5,8 @@ ghost use Rattle.machine.specs.Number.{decimal, format_js_number};
 ghost use Rattle.stacks.specs.View.{Ready};
 ghost use Rattle.texts.specs.Keeps.{text_limit};
 ghost use Rattle.heap.specs.Layout.{property_limit, heap_words};
-ghost use Rattle.heap.specs.View.{Sized};
+ghost use Rattle.texts.specs.Sources.{stores_of};
+ghost use Rattle.heap.specs.View.{Sized, held_in};
 ghost use Rattle.readops.specs.Holds.{Objects};
 ghost use Rattle.heapops.specs.Turns.{mem, Loaded};
 ghost use Rattle.quick.specs.Quickly.{Quickly};
@@ -170,7 +171,7 @@ pub fn load_index(
     requires ready { Ready c.depths stacks.old }
     requires sized { Sized c.sizes heap.now }
     requires text_le_text_limit { (c.text ≤ text_limit) × (length text.now ≡ text_limit) }
-    ensures quickly { (code : List ℕ) → c.code ≤ length code → Quickly (Sure (Distinct c.sizes heap.now c.text text.now) (Objects c.code code c.text text.now c.sizes heap.now)) LoadIndex c.depths stacks.old (quick_in result) stacks.new }
+    ensures quickly { (code : List ℕ) → c.code ≤ length code → Quickly (Sure (Distinct c.sizes heap.now c.text text.now) (Objects (stores_of code c.code text.now c.text) (held_in c.sizes heap.now))) LoadIndex c.depths stacks.old (quick_in result) stacks.new }
     ensures stays { Stays c.depths stacks.old (quick_in result) stacks.new }
 {
     let d = c.depths;

@@ -5,7 +5,7 @@ ghost use Rattle.machine.specs.Instruction.{Add, Call};
 ghost use Rattle.value.specs.Words.{value_of};
 ghost use Rattle.stacks.specs.View.{Ready};
 ghost use Rattle.texts.specs.Keeps.{text_limit};
-ghost use Rattle.heap.specs.View.{Sized};
+ghost use Rattle.heap.specs.View.{Sized, held_in};
 ghost use Rattle.fetch.specs.Running.{Runs};
 ghost use Rattle.readops.specs.Holds.{Callable};
 ghost use Rattle.opcode.specs.Programs.{instruction_of};
@@ -72,7 +72,7 @@ fn call(
     requires runs { Runs x c.depths stacks.old }
     requires inside { Inside x c.code code.now }
     requires sized { Sized c.sizes heap.now }
-    ensures { (places : List ℕ) → Quickly (Callable x c.code code.now places rows.now starts.now c.images c.sizes heap.now) Call c.depths stacks.old result stacks.new }
+    ensures { (places : List ℕ) → Quickly (Callable x c.code code.now places rows.now starts.now c.images (held_in c.sizes heap.now)) Call c.depths stacks.old result stacks.new }
 {
     let d = c.depths;
     let p = d.ip;

@@ -2,7 +2,8 @@
 ghost use Rattle.std.specs.Prelude.{◌≤◌, length};
 ghost use Rattle.machine.specs.Instruction.{LoadGlobal, LoadProperty};
 ghost use Rattle.stacks.specs.View.{Ready};
-ghost use Rattle.heap.specs.View.{Sized};
+ghost use Rattle.texts.specs.Sources.{stores_of};
+ghost use Rattle.heap.specs.View.{Sized, held_in};
 ghost use Rattle.fetch.specs.Running.{Runs};
 ghost use Rattle.readops.specs.Holds.{Named};
 ghost use Rattle.quick.specs.Quickly.{Quickly, Operand};
@@ -38,7 +39,7 @@ pub fn load_global(
     requires code_in_bounds { c.code ≤ length code.now }
     requires sized { Sized c.sizes heap.now }
     requires text_in_bounds { c.text ≤ length text.now }
-    ensures quickly { Quickly (Sure (Distinct c.sizes heap.now c.text text.now) (Named x c.code code.now places.now c.text text.now c.sizes heap.now)) LoadGlobal c.depths stacks.old (quick_in result) stacks.new }
+    ensures quickly { Quickly (Sure (Distinct c.sizes heap.now c.text text.now) (Named x c.code code.now places.now (stores_of code.now c.code text.now c.text) (held_in c.sizes heap.now))) LoadGlobal c.depths stacks.old (quick_in result) stacks.new }
     ensures stays { Stays c.depths stacks.old (quick_in result) stacks.new }
 {
     let d = c.depths;
@@ -66,7 +67,7 @@ pub fn load_property(
     requires code_in_bounds { c.code ≤ length code.now }
     requires sized { Sized c.sizes heap.now }
     requires text_in_bounds { c.text ≤ length text.now }
-    ensures quickly { Quickly (Sure (Distinct c.sizes heap.now c.text text.now) (Named x c.code code.now places.now c.text text.now c.sizes heap.now)) LoadProperty c.depths stacks.old (quick_in result) stacks.new }
+    ensures quickly { Quickly (Sure (Distinct c.sizes heap.now c.text text.now) (Named x c.code code.now places.now (stores_of code.now c.code text.now c.text) (held_in c.sizes heap.now))) LoadProperty c.depths stacks.old (quick_in result) stacks.new }
     ensures stays { Stays c.depths stacks.old (quick_in result) stacks.new }
 {
     let d = c.depths;

@@ -83,7 +83,7 @@ pub fn store_property(
     let Value::Object(id) = value::read(stacks, 3 * (k - 2)) else {
         return None;
     };
-    let Some(ObjectType::Ordinary) = Heap::new(c.sizes, heap).object_type(id) else {
+    let ObjectType::Ordinary = Heap::new(c.sizes, heap).object_type(id)? else {
         return None;
     };
     let (at, size) = name_at(x, i, code, places)?;
