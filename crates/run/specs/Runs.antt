@@ -20,7 +20,7 @@ use Rattle.value.specs.Words.{value_of}
 use Rattle.value.specs.declared.JsVmError.TheVariants.{ExecutionLimitExceeded}
 use Rattle.value.specs.declared.Space.{Space}
 use Rattle.texts.specs.Keeps.{text_limit, output_limit}
-use Rattle.texts.specs.Sources.{InUse}
+use Rattle.texts.specs.Sources.{stores_of, InUse}
 use Rattle.stacks.specs.Layout.{frames_at, stack_words}
 use Rattle.stacks.specs.Laws.{top_length}
 use Rattle.stacks.specs.View as Stacks
@@ -236,12 +236,12 @@ pub record Takes (x : Running) (c : Counts) (g : Tables) (m : Mem) (t : Turned) 
   pub kept : KeptOf t.how c m m'
   pub steady : (t.counts.code ≡ c.code) × (t.counts.images ≡ c.images)
 
-module _ (c : Counts) (g : Tables) (m : Mem) {x : Running} {r : Stepped} {w' : List ℕ} (st : Steps (Held x c.code g.code g.places c.text m.text) x c.depths m.stacks r w') where
+module _ (c : Counts) (g : Tables) (m : Mem) {x : Running} {r : Stepped} {w' : List ℕ} (st : Steps (Held x c.code g.code g.places (stores_of g.code c.code m.text c.text)) x c.depths m.stacks r w') where
   pub left_ready : LeftBy x r.how r.depths w'
   left_ready = left_by x r.how r.depths m.stacks w' st.kept
 
   step_out : (s : St.State) → Ground x c g s → out (program_of (state_of c m s)) (state_of c m s) ≡ part_out r.how r.depths w' (below c m s)
-  step_out s a = told r.how r.depths w' (below c m s) _ (st.goes (below c m s) (record { constants = (looks_named (below c m s) (looks_below m s a)).constants; text = refl }))
+  step_out s a = told r.how r.depths w' (below c m s) _ (st.goes (below c m s) (record { constants = (looks_named (below c m s) (looks_below m s a)).constants; holding = (looks_below m s a).holding }))
 
   -- on the stacks alone
   pub takes_stacks : {b : Counts} {t : Turned} → r.how ≡ Part-as-Went → b ≡ with_depths r.depths c → t ≡ turned b Went → Takes x c g m t (with_stacks w' m)
