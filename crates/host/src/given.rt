@@ -11,7 +11,7 @@ ghost use Rattle.host.specs.Refusals.{Asks};
 use crate::{Refusal, questions};
 use value::{Value, Words};
 
-#[derive(Clone, Copy)]
+#[derive(Clone, Copy, Debug)]
 pub enum Given<'a> {
     Plain(Value),
     Bytes(&'a [u8]),

@@ -82,15 +82,12 @@ pub fn loaded(images: Images, c: Counts, image: usize) -> Result<(), Refusal>
 }
 
 /// Question 32. An image's chunk, its template 0, is no function.
-pub fn template(
-    images: Images,
-    c: Counts,
-    image: usize,
-    template: usize,
-) -> Result<(), Refusal>
+pub fn template(images: Images, c: Counts, image: usize, template: usize) -> Result<(), Refusal>
     ensures { Asks result (leb 1 template && ltb template (length (get_or (images_in c (tables_of images.entry)) image []))) NoTemplate }
 {
-    if 0 < template && template < image::template_count(images.rows, images.starts, c.images, image) {
+    if 0 < template
+        && template < image::template_count(images.rows, images.starts, c.images, image)
+    {
         Ok(())
     } else {
         Err(Refusal::NoTemplate)

@@ -1,15 +1,16 @@
 //! Why a call is refused.
-ghost use Rattle.std.specs.Prelude.{◌≡◌};
+ghost use Rattle.std.specs.Prelude.{◌≡◌, Some};
 ghost use Rattle.value.specs.declared.Stop.TheVariants.{Refused};
 ghost use Rattle.host.specs.declared.refusal.Refusal.TheVariants.{Load, Stopped};
-ghost use Rattle.host.specs.Refusals.{number_of};
+ghost use Rattle.host.specs.Refusals.{number_of, text_of};
 
 use image::LoadError;
+use std::error::Error;
 use std::fmt;
 use value::{Space, Stop};
 
 /// The question that was answered no; a refused call alters nothing.
-#[derive(Clone, Copy)]
+#[derive(Clone, Copy, Debug, PartialEq, Eq)]
 pub enum Refusal {
     /// A store has another length than the listed one, or a count is above it.
     StoreSizes,
@@ -69,32 +70,21 @@ impl From<Refusal> for u64 {
     }
 }
 
-fn full_store(q: Space) -> &'static str {
-    match q {
-        Space::Frames => "the frames are full",
-        Space::Slots => "the slots are full",
-        Space::Handlers => "the handlers are full",
-        Space::Functions => "the functions are full",
-        Space::Objects => "the objects are full",
-        Space::Properties => "the properties are full",
-        Space::Globals => "the globals are full",
-        Space::Text => "the text store is full",
-        Space::Output => "the output is full",
-    }
-}
-
 impl fmt::Display for Refusal {
+    ghost output = { λ r. Some (text_of r) };
+
     fn fmt<W: fmt::Write>(&self, f: &mut fmt::Formatter<W>) -> fmt::Result {
         match self {
-            Refusal::StoreSizes => write!(f, "a store has another size than the listed one"),
-            Refusal::NotAscii => write!(f, "a name or a text has a byte above 127"),
-            Refusal::Handle => write!(f, "a text handle is not inside the bytes in use"),
-            Refusal::BufferTooShort => write!(f, "the buffer is too short"),
-            Refusal::NoImage => write!(f, "no such image is loaded"),
-            Refusal::NoTemplate => write!(f, "the image has no such template"),
+            Refusal::StoreSizes => f.write_str("a store has another size than the listed one"),
+            Refusal::NotAscii => f.write_str("a name or a text has a byte above 127"),
+            Refusal::Handle => f.write_str("a text handle is not inside the bytes in use"),
+            Refusal::BufferTooShort => f.write_str("the buffer is too short"),
+            Refusal::NoImage => f.write_str("no such image is loaded"),
+            Refusal::NoTemplate => f.write_str("the image has no such template"),
             Refusal::Load(e) => write!(f, "{e}"),
-            Refusal::Stopped(Stop::Failed(_)) => write!(f, "an error of a run"),
-            Refusal::Stopped(Stop::Refused(q)) => f.write_str(full_store(*q)),
+            Refusal::Stopped(s) => write!(f, "{s}"),
         }
     }
 }
+
+impl Error for Refusal {}

@@ -6,7 +6,7 @@ use Rattle.std.proofs.lemmas.List.{get_or-replicate}
 use Rattle.std.specs.Prelude.{if◌then◌else◌}
 use Rattle.machine.specs.Value as M
 use Rattle.machine.specs.State as St
-use Rattle.machine.specs.Error.{error_number}
+use Rattle.machine.specs.Error.{error_number, unknown_opcode}
 use Rattle.machine.specs.Program as P
 use Rattle.machine.specs.Program.{Program, exec}
 use Rattle.machine.specs.Instruction.{instruction}
@@ -24,6 +24,7 @@ use Rattle.value.specs.declared.Value.{Value}
 use Rattle.stacks.specs.Layout.{slots_at, frames_at, handlers_at, stack_words}
 use Rattle.stacks.specs.Laws.{top_length}
 use Rattle.stacks.specs.View.{frame_at, handler_at, operands_of, frames_of}
+use Rattle.texts.specs.Sources.{stores_of}
 use Rattle.heap.specs.Layout.{objects_at, properties_at, globals_at}
 use Rattle.heap.specs.View.{function_at, kind_at, row_at, property_of, global_of}
 use Rattle.image.specs.View.{images_of, image_at, templates_at, template_at, constants_of}
@@ -46,6 +47,9 @@ use Rattle.opcodes.specs.declared.trial.Attempt.{Attempt}
 -- An attempt of the code as the machine's, and as it is seen of what a program comes to.
 abbrev pub attempt_by : Attempt → Machine.Attempt
 attempt_by a = record { number = a.number; standing = a.standing }
+
+abbrev pub attempted_as : ℕ → ℕ → Machine.Attempt
+attempted_as n k = record { number = n; standing = k }
 
 abbrev attempt_in : Out → Machine.Attempt
 attempt_in (went s) = record { number = 0; standing = standing_in P.went s }
@@ -157,14 +161,14 @@ trial_runs n m o e = record { stands = λ q. omega arith; image = zero_word o (f
 
 -- THE INSTRUCTION, on the stacks and then with the other stores
 module _ (c : Counts) (g : Tables) (m : Mem) {p : Program} {x : Running} {r : Stepped} {w' : List ℕ}
-    (d : Dispatches (Held x c.code g.code g.places c.text m.text) x p c.depths m.stacks r w') where
+    (d : Dispatches (Held x c.code g.code g.places (stores_of g.code c.code m.text c.text)) x p c.depths m.stacks r w') where
   pub left_ready : LeftBy x r.how r.depths w'
   left_ready = left_by x r.how r.depths m.stacks w' d.kept
 
   pub turns : {t : Turned} {m' : Mem} → Finishes (Ground x c g) x c (with_stacks w' m) r t m' → Turns (Ground x c g) p c m t m'
   turns {t} {m'} f = record {
     goes = λ s a. subst (Turns.Tells t.how t.counts m' s)
-        (sym (told r.how r.depths w' (below c m s) _ (d.goes (below c m s) (record { constants = (looks_named (below c m s) (looks_below m s a)).constants; text = refl }))))
+        (sym (told r.how r.depths w' (below c m s) _ (d.goes (below c m s) (record { constants = (looks_named (below c m s) (looks_below m s a)).constants; holding = (looks_below m s a).holding }))))
         (f.goes s a);
     kept = f.kept m.stacks d.kept;
   }
@@ -187,23 +191,18 @@ module _ (t : Turned) where
       operands : length (operands_of m.stacks t.counts.depths.operands) ≡ t.counts.depths.operands
       operands = stack_length (λ i. value_at m.stacks (0 + 3 * i)) t.counts.depths.operands
 
-  pub tells_stays : t.how ≡ Went → t.counts.depths.frames ≡ 1 → Tells t (record { number = 0; standing = t.counts.depths.operands })
-  tells_stays e f = tells_as Went _ e
-      (λ m s o k. sym (ap attempt_in k ∙ (λ i. record { number = 0; standing = (standing_is m s ∙ ap (λ (n : ℕ). if eqb n 1 then t.counts.depths.operands else 0) f) i })))
+  pub tells_went : {k : ℕ} {r : Attempt} → t.how ≡ Went → k ≡ (if eqb t.counts.depths.frames 1 then t.counts.depths.operands else 0) → attempt_by r ≡ attempted_as 0 k → Tells t r
+  tells_went {k} {r} e f a = tells_as Went r e (λ m s o j. a ∙ ap (attempted_as 0) (f ∙ sym (standing_is m s)) ∙ sym (ap attempt_in j))
 
-  pub tells_leaves : t.how ≡ Went → (t.counts.depths.frames ≡ 1 → ⊥) → Tells t (record { number = 0; standing = 0 })
-  tells_leaves e f = tells_as Went _ e
-      (λ m s o k. sym (ap attempt_in k ∙ (λ i. record { number = 0; standing = (standing_is m s ∙ ap (λ (b : Bool). if b then t.counts.depths.operands else 0) (ne_eqb t.counts.depths.frames 1 f)) i })))
+  pub tells_finished : {e : Result Value JsVmError} {v : Value} {r : Attempt} → t.how ≡ Ended e → e ≡ Ok v → attempt_by r ≡ attempted_as 0 0 → Tells t r
+  tells_finished {e} {v} {r} q p a = tells_as (Ended e) r q (λ m s o k. a ∙ sym (ap attempt_in k ∙ ap (λ (y : Result Value JsVmError). attempt_in (ended (end_of y) (state_of t.counts m s))) p))
 
-  pub tells_finished : {e : Result Value JsVmError} {v : Value} → t.how ≡ Ended e → e ≡ Ok v → Tells t (record { number = 0; standing = 0 })
-  tells_finished {e} {v} q p = tells_as (Ended e) _ q (λ m s o k. sym (ap attempt_in k ∙ ap (λ (y : Result Value JsVmError). attempt_in (ended (end_of y) (state_of t.counts m s))) p))
+  pub tells_failed : {e : Result Value JsVmError} {x : JsVmError} {n : ℕ} {r : Attempt} → t.how ≡ Ended e → e ≡ Err x → n ≡ error_number (error_of x) → attempt_by r ≡ attempted_as n 0 → Tells t r
+  tells_failed {e} {x} {n} {r} q p g a = tells_as (Ended e) r q
+      (λ m s o k. a ∙ ap (λ (i : ℕ). attempted_as i 0) g ∙ sym (ap attempt_in k ∙ ap (λ (y : Result Value JsVmError). attempt_in (ended (end_of y) (state_of t.counts m s))) p))
 
-  pub tells_failed : {e : Result Value JsVmError} {x : JsVmError} {n : ℕ} → t.how ≡ Ended e → e ≡ Err x → n ≡ error_number (error_of x) → Tells t (record { number = n; standing = 0 })
-  tells_failed {e} {x} {n} q p g = tells_as (Ended e) _ q
-      (λ m s o k. (λ i. record { number = g i; standing = 0 }) ∙ sym (ap attempt_in k ∙ ap (λ (y : Result Value JsVmError). attempt_in (ended (end_of y) (state_of t.counts m s))) p))
-
-  pub tells_refused : {x : Space} {n : ℕ} → t.how ≡ Refused x → n ≡ St.question (space_of x) → Tells t (record { number = n; standing = 0 })
-  tells_refused {x} {n} q g = tells_as (Refused x) _ q (λ m s o k. (λ i. record { number = g i; standing = 0 }) ∙ sym (ap attempt_in k))
+  pub tells_refused : {x : Space} {n : ℕ} {r : Attempt} → t.how ≡ Refused x → n ≡ St.question (space_of x) → attempt_by r ≡ attempted_as n 0 → Tells t r
+  tells_refused {x} {n} {r} q g a = tells_as (Refused x) r q (λ m s o k. a ∙ ap (λ (i : ℕ). attempted_as i 0) g ∙ sym (ap attempt_in k))
 
 -- THE ATTEMPT
 module _ (p : Program) (b n m : ℕ) {x : Running} {w' h t u : List ℕ} {y : Turned} {m' : Mem} {r : Attempt} where
@@ -215,6 +214,11 @@ module _ (p : Program) (b n m : ℕ) {x : Running} {w' h t u : List ℕ} {y : Tu
 
 module _ (op b n m : ℕ) {x : Running} {w' h t u : List ℕ} {y : Turned} {m' : Mem} {r : Attempt} where
   pub attempt_is : n ≤ 2 → m ≤ 4 → Objects (replicate stack_words 0) w' 4 → Known (trial_tables b n).rows (trial_tables b n).starts 1 x
-      → Turns (Ground x (trial_counts n m) (trial_tables b n)) (instruction op) (trial_counts n m) (mem w' h t u) y m' → Tells y r → attempt_by r ≡ attempt_for op b n m
+      → {p : Program} → instruction op ≡ p → Turns (Ground x (trial_counts n m) (trial_tables b n)) p (trial_counts n m) (mem w' h t u) y m' → Tells y r → attempt_by r ≡ attempt_for op b n m
   unfolding attempt_for
-  attempt_is l k o f g e = attempt_of (instruction op) b n m l k o f g e
+  attempt_is l k o f {p} i g e = attempt_of p b n m l k o f g e ∙ ap (λ (p : Program). attempt p b n m) (sym i)
+
+-- a byte that names no instruction
+pub attempt_unknown : (op b n m : ℕ) {r : Attempt} → instruction op ≡ P.end (P.failed (unknown_opcode op)) → attempt_by r ≡ attempted_as 13 0 → attempt_by r ≡ attempt_for op b n m
+unfolding attempt_for
+attempt_unknown op b n m i a = a ∙ ap (λ (p : Program). attempt p b n m) (sym i)

@@ -13,7 +13,7 @@ fn main(rt: HostRuntime) -> io::Result<()> {
     let mut heap = [0u64; HEAP_WORDS];
     let mut text = [0u8; TEXT_LIMIT];
     let mut output = [0u8; OUTPUT_LIMIT];
-    for op in 0..256 {
+    for op in 0..=u8::MAX {
         let row = row::row_of(op, &mut heap, &mut text, &mut output);
         println!(rt; "{op} {row}")?;
     }

@@ -24,12 +24,11 @@ impl fmt::Display for Row {
 
 // The least bytes with which it does not give 14.
 fn bytes_for(
-    op: usize,
+    op: u8,
     heap: &mut [u64; HEAP_WORDS],
     text: &mut [u8; TEXT_LIMIT],
     output: &mut [u8; OUTPUT_LIMIT],
 ) -> u16
-    requires { op < 256 }
     ensures { result ≡ bytes_from (attempt_for op) }
 {
     for n in 0..2 {
@@ -43,12 +42,11 @@ fn bytes_for(
 
 // The least operands with which it does not give 15.
 fn operands_for(
-    op: usize,
+    op: u8,
     heap: &mut [u64; HEAP_WORDS],
     text: &mut [u8; TEXT_LIMIT],
     output: &mut [u8; OUTPUT_LIMIT],
 ) -> usize
-    requires { op < 256 }
     ensures { (result ≡ operands_from (attempt_for op)) × (result ≤ 3) }
 {
     for m in 0..3 {
@@ -76,12 +74,11 @@ fn pushed(standing: usize, least: usize) -> u64
 }
 
 pub fn row_of(
-    op: usize,
+    op: u8,
     heap: &mut [u64; HEAP_WORDS],
     text: &mut [u8; TEXT_LIMIT],
     output: &mut [u8; OUTPUT_LIMIT],
 ) -> Row
-    requires { op < 256 }
     ensures { row_by result ≡ row_for op }
 {
     let whole = attempt_of(op, 0, 2, 4, heap, text, output);

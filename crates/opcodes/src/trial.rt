@@ -1,19 +1,20 @@
 //! An instruction's own code, tried: one frame with some operand bytes left, and some operands.
-ghost use Rattle.std.specs.Prelude.{◌≡◌, ◌≤◌, ◌<◌, length};
-ghost use Rattle.machine.specs.Instruction.{instruction};
+ghost use Rattle.std.specs.Prelude.{◌≡◌, if◌then◌else◌, eqb, ◌≤◌, length};
 ghost use Rattle.machine.specs.Opcodes.{attempt_for};
 ghost use Rattle.stacks.specs.Layout.{stack_words};
 ghost use Rattle.stacks.specs.View.{Ready};
 ghost use Rattle.texts.specs.Keeps.{text_limit, output_limit};
 ghost use Rattle.heap.specs.View.{Sized};
 ghost use Rattle.fetch.specs.Running.{Runs};
+ghost use Rattle.opcode.specs.Programs.{instruction_of};
 ghost use Rattle.heapops.specs.Turns.{Turns, mem};
 ghost use Rattle.finish.specs.Parts.{Ground, tables};
-ghost use Rattle.opcodes.specs.Trials.{Objects, Tells, attempt_by};
+ghost use Rattle.opcodes.specs.Trials.{Objects, Tells, attempt_by, attempted_as};
 
 use fetch::Running;
 use heap::{HEAP_WORDS, Sizes};
 use heapops::{Counts, How, Turned};
+use opcode::Opcode;
 use stacks::{Depths, STACK_WORDS};
 use texts::{OUTPUT_LIMIT, TEXT_LIMIT, Texts};
 use value::Value;
@@ -37,7 +38,7 @@ fn place_operands(stacks: &mut [u64])
 
 // The instruction as a run makes it, from the place behind its opcode.
 fn perform(
-    op: usize,
+    op: Opcode,
     x: Running,
     c: Counts,
     code: &[u8],
@@ -55,8 +56,7 @@ fn perform(
     requires sized { Sized c.sizes heap.old }
     requires text_le_text_limit { (c.text ≤ text_limit) × (length text.old ≡ text_limit) }
     requires output_le_output_limit { (c.output ≤ output_limit) × (length output.old ≡ output_limit) }
-    requires op_bound { op < 256 }
-    ensures { Turns (Ground x c (tables code.now places.now rows.now starts.now)) (instruction op) c (mem stacks.old heap.old text.old output.old) result (mem stacks.new heap.new text.new output.new) }
+    ensures { Turns (Ground x c (tables code.now places.now rows.now starts.now)) (instruction_of op) c (mem stacks.old heap.old text.old output.old) result (mem stacks.new heap.new text.new output.new) }
 {
     let texts = Texts::new(code, c.code, text, c.text);
     let r = dispatch::execute(op, x, c.depths, code, c.code, places, stacks, &texts);
@@ -65,34 +65,34 @@ fn perform(
     )
 }
 
+// The operands of the frame that an instruction went on in, 0 where it left it.
+fn standing_in(d: Depths) -> usize
+    ensures { result ≡ (if eqb d.frames 1 then d.operands else 0) }
+{
+    if d.frames == 1 { d.operands } else { 0 }
+}
+
+fn came(number: u64, standing: usize) -> Attempt
+    ensures { attempt_by result ≡ attempted_as number standing }
+{
+    Attempt { number, standing }
+}
+
 // What is told of how it came out.
 fn attempted(t: Turned) -> Attempt
     ensures { Tells t result }
 {
-    let d = t.counts.depths;
     match t.how {
-        How::Went if d.frames == 1 => Attempt {
-            number: 0,
-            standing: d.operands,
-        },
-        How::Went | How::Ended(Ok(_)) => Attempt {
-            number: 0,
-            standing: 0,
-        },
-        How::Ended(Err(e)) => Attempt {
-            number: u64::from(e),
-            standing: 0,
-        },
-        How::Refused(q) => Attempt {
-            number: u64::from(q),
-            standing: 0,
-        },
+        How::Went => came(0, standing_in(t.counts.depths)),
+        How::Ended(Ok(_)) => came(0, 0),
+        How::Ended(Err(e)) => came(u64::from(e), 0),
+        How::Refused(q) => came(u64::from(q), 0),
     }
 }
 
 // The instruction of a byte, with n bytes of code left, each of them b, and m operands.
 pub fn attempt_of(
-    op: usize,
+    op: u8,
     b: u8,
     n: u16,
     m: usize,
@@ -100,9 +100,12 @@ pub fn attempt_of(
     text: &mut [u8; TEXT_LIMIT],
     output: &mut [u8; OUTPUT_LIMIT],
 ) -> Attempt
-    requires { (op < 256) × (n ≤ 2) × (m ≤ 4) }
+    requires { (n ≤ 2) × (m ≤ 4) }
     ensures { attempt_by result ≡ attempt_for op b n m }
 {
+    let Some(op) = Opcode::from_byte(op) else {
+        return came(13, 0);
+    };
     let code: [u8; 2] = [b, b];
     let places: [u16; 1] = [0];
     let rows: [u16; 8] = [1, 0, 0, 0, 0, 0, 0, n];

@@ -1,8 +1,5 @@
-use Rattle.opcodes.specs.Trials.{tells_stays, tells_leaves}
+use Rattle.opcodes.specs.Trials.{tells_went}
 use Rattle.opcodes.proofs.trial.attempted.Goals as goal
 
-pub returns-then-d-ne1 : goal.returns-then-d-ne1
-returns-then-d-ne1 c = tells_leaves c.args.t c.in-Went.is c.if-d-ne1.true
-
-pub returns-else-d-ne1 : goal.returns-else-d-ne1
-returns-else-d-ne1 c = tells_stays c.args.t c.in-Went.is c.if-d-ne1.false
+pub returns-in-Went : goal.returns-in-Went
+returns-in-Went c = tells_went c.args.t c.in-Went.is c.standing_in.ensures c.came.ensures

@@ -6,4 +6,4 @@ use Rattle.opcodes.proofs.trial.perform.Goals as goal
 pub returns : goal.returns
 returns c =
     turns c.args.c (tables c.args.code.now c.args.places.now c.args.rows.now c.args.starts.now)
-    (mem c.args.stacks.now c.args.heap.now c.args.text.now c.args.output.now) c.execute-r.ensures c.finish.ensures
+    (mem c.args.stacks.now c.args.heap.now c.args.text.now c.args.output.now) (rw c.new-texts.ensures at c.execute-r.ensures) c.finish.ensures
