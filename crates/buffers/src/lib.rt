@@ -34,8 +34,8 @@ pub fn text_of<'a>(
 {
     questions::lent(images, memory, c)?;
     given.ascii()?;
-    given.handle(images.code, c.code, memory.text, c.text)?;
     let texts = Texts::new(images.code, c.code, memory.text, c.text);
+    given.handle(&texts)?;
     write(&texts, given, buffer).ok_or(Refusal::BufferTooShort)
 }
 

@@ -63,7 +63,8 @@ pub fn set_global(
     questions::lent(images, memory, c)?;
     questions::ascii(name)?;
     given.ascii()?;
-    given.handle(images.code, c.code, text, c.text)?;
+    let texts = Texts::new(images.code, c.code, text, c.text);
+    given.handle(&texts)?;
     let (sizes, used) = put(
         c.sizes,
         heap,

@@ -3,12 +3,12 @@ ghost use Rattle.std.specs.Prelude.{◌≡◌};
 ghost use Rattle.machine.specs.Act.{plain, as_bytes};
 ghost use Rattle.machine.specs.Host as Host;
 ghost use Rattle.value.specs.Words.{decode_of};
-ghost use Rattle.texts.specs.Sources.{InUse, stores_of};
 ghost use Rattle.host.specs.declared.refusal.Refusal.TheVariants.{Handle, NotAscii};
 ghost use Rattle.host.specs.Givens.{given_of};
 ghost use Rattle.host.specs.Refusals.{Asks};
 
 use crate::{Refusal, questions};
+use texts::Texts;
 use value::{Value, Words};
 
 #[derive(Clone, Copy, Debug)]
@@ -45,12 +45,11 @@ impl Given<'_> {
     }
 
     /// Question 30.
-    pub fn handle(self, code: &[u8], n: usize, text: &[u8], m: usize) -> Result<(), Refusal>
-        requires { InUse code.now n text.now m }
-        ensures { Asks result (Host.given_fine (stores_of code.now n text.now m) (given_of self.entry)) Handle }
+    pub fn handle(self, texts: &Texts) -> Result<(), Refusal>
+        ensures { Asks result (Host.given_fine texts.now (given_of self.entry)) Handle }
     {
         match self {
-            Given::Plain(v) => questions::handle(code, n, text, m, v),
+            Given::Plain(v) => questions::handle(texts, v),
             Given::Bytes(_) => Ok(()),
         }
     }

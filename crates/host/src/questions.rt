@@ -3,7 +3,6 @@ ghost use Rattle.std.specs.Prelude.{◌≡◌, false, ◌&&◌, [], ◌+◌, ◌
 ghost use Rattle.machine.specs.Basic.{is_ascii};
 ghost use Rattle.machine.specs.Host as Host;
 ghost use Rattle.value.specs.Words.{value_of};
-ghost use Rattle.texts.specs.Sources.{InUse, stores_of};
 ghost use Rattle.host.specs.declared.refusal.Refusal.TheVariants.{StoreSizes, NotAscii, Handle, NoImage, NoTemplate};
 ghost use Rattle.host.specs.Calls.{sizes_right, counts_right, lent as are_lent};
 ghost use Rattle.host.specs.Lent.{Lent};
@@ -13,6 +12,7 @@ ghost use Rattle.host.specs.Stores.{tables_of, mem_of, images_in};
 
 use crate::{Images, Memory, Refusal};
 use heapops::Counts;
+use texts::Texts;
 use value::Value;
 
 fn listed(images: Images, memory: Memory) -> bool
@@ -106,13 +106,12 @@ pub fn ascii(s: &[u8]) -> Result<(), Refusal>
 }
 
 /// Question 30: a text handle is inside the bytes in use, and these are below 128.
-pub fn handle(code: &[u8], n: usize, text: &[u8], m: usize, v: Value) -> Result<(), Refusal>
-    requires { InUse code.now n text.now m }
-    ensures { Asks result (Host.handle_fine (stores_of code.now n text.now m) (value_of v)) Handle }
+pub fn handle(texts: &Texts, v: Value) -> Result<(), Refusal>
+    ensures { Asks result (Host.handle_fine texts.now (value_of v)) Handle }
 {
     match v {
-        Value::CodeText(at, size) => inside(&code[..n], at, size),
-        Value::MadeText(at, size) => inside(&text[..m], at, size),
+        Value::CodeText(at, size) => inside(texts.code(), at, size),
+        Value::MadeText(at, size) => inside(texts.text(), at, size),
         Value::Undefined
         | Value::Null
         | Value::Boolean(_)

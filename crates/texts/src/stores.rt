@@ -40,6 +40,12 @@ impl<'a> Texts<'a> {
         }
     }
 
+    pub fn code(&self) -> &'a [u8]
+        ensures { result.now ≡ self.now.code }
+    {
+        self.code
+    }
+
     pub fn text(&self) -> &'a [u8]
         ensures { result.now ≡ self.now.text }
     {

@@ -1,5 +1,8 @@
-use Rattle.host.specs.Lent.{lent_use, lent_within, lent_lengths}
+use Rattle.host.specs.Lent.{lent_use, lent_sized}
 use Rattle.globals.proofs.read_global.Goals as goal
 
-pub global-requires : goal.global-requires
-global-requires c = let e = c.in_ok-lent.ensures in ((lent_use e).text, (lent_within e).globals, (lent_lengths e).heap)
+pub new-texts-requires : goal.new-texts-requires
+new-texts-requires c = lent_use c.in_ok-lent.ensures
+
+pub new-requires : goal.new-requires
+new-requires c = lent_sized c.in_ok-lent.ensures

@@ -13,10 +13,10 @@ put-requires-clause-n_in_bounds c = let e = c.in_ok-lent.ensures in ((lent_use e
 pub returns-in_err-sizes : goal.returns-in_err-sizes
 returns-in_err-sizes c =
     let p = err_from_is_err_and c.from_residual-in_err-sizes.result c.from_residual-in_err-sizes.ensures.1 in
-    rw (p.1, p.2) (set_full c.in_ok-lent.ensures c.args.name.now (given_of c.args.given) c.in_ok-ascii.ensures c.in_ok-ascii-2.ensures c.in_ok-handle.ensures c.in_err-sizes.ensures)
+    rw (p.1, p.2) (set_full c.in_ok-lent.ensures c.args.name.now (given_of c.args.given) c.in_ok-ascii.ensures c.in_ok-ascii-2.ensures (rw c.new-texts.ensures at c.in_ok-handle.ensures) c.in_err-sizes.ensures)
 
 pub returns : goal.returns
-returns c = set_done c.in_ok-lent.ensures c.args.name.now (given_of c.args.given) c.in_ok-ascii.ensures c.in_ok-ascii-2.ensures c.in_ok-handle.ensures c.in_ok-sizes.ensures c.put.auto.text
+returns c = set_done c.in_ok-lent.ensures c.args.name.now (given_of c.args.given) c.in_ok-ascii.ensures c.in_ok-ascii-2.ensures (rw c.new-texts.ensures at c.in_ok-handle.ensures) c.in_ok-sizes.ensures c.put.auto.text
 
-pub handle-requires : goal.handle-requires
-handle-requires c = lent_use c.in_ok-lent.ensures
+pub new-texts-requires : goal.new-texts-requires
+new-texts-requires c = lent_use c.in_ok-lent.ensures

@@ -9,14 +9,14 @@ add_function-requires c = lent_sized c.in_ok-lent.ensures
 pub returns-in_err-loaded : goal.returns-in_err-loaded
 returns-in_err-loaded c =
     let p = err_from_is_err_and c.from_residual-in_err-loaded.result c.from_residual-in_err-loaded.ensures.1 in
-    let q = c.in_err-loaded.ensures (tables c.args.code.now c.args.places.now c.args.rows.now c.args.starts.now) in
+    let q = c.in_err-loaded.ensures in
     rw (p.1, p.2, q.1) (register_10 c.args.image c.args.template c.in_ok-lent.ensures q.0)
 
 pub returns-in_err-template : goal.returns-in_err-template
 returns-in_err-template c =
     let p = err_from_is_err_and c.from_residual-in_err-template.result c.from_residual-in_err-template.ensures.1 in
-    let q = c.in_err-template.ensures c.args.code.now c.args.places.now in
-    rw (p.1, p.2, q.1) (register_32 c.args.image c.args.template c.in_ok-lent.ensures (c.in_ok-loaded.ensures _) q.0)
+    let q = c.in_err-template.ensures in
+    rw (p.1, p.2, q.1) (register_32 c.args.image c.args.template c.in_ok-lent.ensures c.in_ok-loaded.ensures q.0)
 
 pub returns-in_err-sizes : goal.returns-in_err-sizes
 returns-in_err-sizes c =

@@ -1,6 +1,5 @@
 use Rattle.std.proofs.lemmas.Result.{err_from_is_err_and}
 use Rattle.run.specs.Runs.{whole_ready}
-use Rattle.finish.specs.Parts.{tables}
 use Rattle.host.specs.Lent.{whole_lent}
 use Rattle.engine.specs.Runs.{no_image, start_refused, start_whole, start_ran}
 use Rattle.engine.proofs.runs.run.Goals as goal
@@ -11,7 +10,7 @@ push_frame-requires c = whole_ready (whole_lent c.in_ok-lent.ensures)
 pub returns-in_err-loaded : goal.returns-in_err-loaded
 returns-in_err-loaded c =
     let p = err_from_is_err_and c.from_residual-in_err-loaded.result c.from_residual-in_err-loaded.ensures.1 in
-    let q = c.in_err-loaded.ensures (tables c.args.code.now c.args.places.now c.args.rows.now c.args.starts.now) in
+    let q = c.in_err-loaded.ensures in
     rw (p.1, p.2, q.1) (no_image c.args.image c.in_ok-lent.ensures q.0)
 
 pub returns-in_err-depths : goal.returns-in_err-depths
