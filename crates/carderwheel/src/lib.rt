@@ -1,5 +1,5 @@
 //! The C face of the host calls: the stores as slices, the counts by value, and one flat answer a shape. include/carderwheel.h gives them one struct.
-//! write.rt has that of the image writer, opcode.rt that of the table of opcodes.
+//! write.rt has that of the image writer, table.rt that of the table of opcodes.
 #![tactic(auto)]
 
 ghost use Rattle.std.specs.Prelude.{length};
@@ -15,7 +15,7 @@ use heapops::Counts;
 use host::{Given, Images, Memory};
 use value::Words;
 
-mod opcode;
+mod table;
 mod write;
 
 #[unsafe(no_mangle)]
