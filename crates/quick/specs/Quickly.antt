@@ -20,8 +20,6 @@ use Rattle.stacks.specs.Places.{spot_within, spot_store}
 use Rattle.stacks.specs.declared.Handler.{Handler}
 use Rattle.stacks.specs.View
 use Rattle.stacks.specs.declared.Depths.{Depths}
-use Rattle.opcode.specs.Programs.{instruction_of, Decodes}
-use Rattle.opcode.specs.declared.Opcode.{Opcode}
 use Rattle.outcome.specs.Meets.{Meets, Any, stepped, settles, weaken, any, onward, after_look, after_gives, goes_on, jumps}
 use Rattle.stackops.specs.Control.{after_made}
 use Rattle.outcome.specs.declared.Part.TheVariants.{Went as Part-as-Went}
@@ -38,11 +36,6 @@ use Rattle.value.specs.declared.Stop.TheVariants.{Failed, Refused}
 pub record Inside (x : Running) (n : ℕ) (code : List ℕ) : Type 0 where
   pub loaded : x.shape.at + x.shape.size ≤ n
   pub stored : n ≤ length code
-
--- the instruction of the byte at a place of the code
-pub record DecodesAt (code : List ℕ) (at : ℕ) (r : Option Opcode) : Type 0 where
-  pub is : Decodes (get_or code at 0) r
-  pub small : get_or code at 0 < 256
 
 -- THE CONTRACT of a quick instruction: it went, as the machine's program p does in every state of which H holds; or it is left, and the words are as they were.
 abbrev pub Told : (St.State → Type 0) → Program → Depths → List ℕ → Option Depths → List ℕ → Type 0
@@ -270,6 +263,5 @@ module _ {H : St.State → Type 0} (x : Running) (n : ℕ) (code : List ℕ) (i 
   step_told w' (Some a) f g k t = (λ s h. begun f g k s h ∙ t.0.goes s h, t.1)
   step_told w' None f g k t = t
 
-  pub step_goes : {op : Opcode} {e : Depths} {w' : List ℕ} {q : Option Depths} → DecodesAt code (x.shape.at + d.ip) (Some op)
-      → e ≡ with_ip (d.ip + 1) d → Quickly H (instruction_of op) e w q w' → QuickStep H d w q w'
-  step_goes {op} {e} {w'} {q} g k t = record { told = step_told w' q refl g.small k (subst (λ (p : Program). Told H p e w q w') (sym g.is) t.told) }
+  pub step_goes : {b : ℕ} {e : Depths} {w' : List ℕ} {q : Option Depths} → b ≡ get_or code (x.shape.at + d.ip) 0 → b < 256 → e ≡ with_ip (d.ip + 1) d → Quickly H (I.instruction b) e w q w' → QuickStep H d w q w'
+  step_goes {w' = w'} {q = q} f g k t = record { told = step_told w' q f g k t.told }

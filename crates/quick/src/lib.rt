@@ -9,14 +9,13 @@ pub mod numbers;
 
 ghost use Rattle.std.specs.Prelude.{◌≡◌, ℕ, ◌+◌, ◌*◌, ◌≤◌, ◌<◌, SomeIff, length, get_or};
 ghost use Rattle.machine.specs.State.{operand_limit};
-ghost use Rattle.machine.specs.Instruction.{pushed};
+ghost use Rattle.machine.specs.Instruction.{instruction, pushed};
 ghost use Rattle.value.specs.Words.{value_of, value_at};
 ghost use Rattle.stacks.specs.Layout.{stack_words};
 ghost use Rattle.stacks.specs.View.{Ready};
-ghost use Rattle.opcode.specs.Programs.{instruction_of};
 ghost use Rattle.outcome.specs.Meets.{Any};
 ghost use Rattle.readops.specs.Holds.{Constants};
-ghost use Rattle.quick.specs.Quickly.{quick_of, Quickly, QuickStep, Inside, Operand, DecodesAt, Word};
+ghost use Rattle.quick.specs.Quickly.{quick_of, Quickly, QuickStep, Inside, Operand, Word};
 ghost use Rattle.quick.specs.Stays.{Stays, InFrame, Stands};
 
 use fetch::Running;
@@ -69,12 +68,11 @@ pub fn byte_at(code: &[u8], at: usize) -> usize
     usize::from(code[at])
 }
 
-// The instruction whose opcode is there, if the byte is one.
-pub fn opcode_at(code: &[u8], at: usize) -> Option<Opcode>
+pub fn opcode_at(code: &[u8], at: usize) -> u8
     requires { at < length code.now }
-    ensures { DecodesAt code.now at result }
+    ensures { (result ≡ get_or code.now at 0) × (result < 256) }
 {
-    Opcode::from_byte(code[at])
+    code[at]
 }
 
 // `read_u16`
@@ -133,7 +131,7 @@ pub fn push_from(d: Depths, stacks: &mut [u64], source: &[u64], k: usize) -> Opt
 
 // i is the operand that follows the opcode, if it has one.
 fn execute(
-    op: Opcode,
+    op: u8,
     x: Running,
     y: Here,
     d: Depths,
@@ -146,29 +144,29 @@ fn execute(
     requires ready { Ready d stacks.old }
     requires in_frame { InFrame x y d stacks.old }
     requires operand { Operand x n code.now d i }
-    ensures quickly { Quickly (Constants x n code.now places.now) (instruction_of op) d stacks.old result stacks.new }
+    ensures quickly { Quickly (Constants x n code.now places.now) (instruction op) d stacks.old result stacks.new }
     ensures stays { Stays d stacks.old result stacks.new }
 {
     match op {
-        Opcode::LoadConst => moves::load_const(x, y, d, i, code, n, places, stacks),
-        Opcode::LoadLocal => moves::load_local(x, y, d, i, code, n, stacks),
-        Opcode::StoreLocal => moves::store_local(x, y, d, i, code, n, stacks),
-        Opcode::Add => numbers::compute::<Add>(d, stacks),
-        Opcode::Sub => numbers::compute::<Sub>(d, stacks),
-        Opcode::Mul => numbers::compute::<Mul>(d, stacks),
-        Opcode::Div => numbers::compute::<Div>(d, stacks),
-        Opcode::Lt => numbers::compare::<Lt>(d, stacks),
-        Opcode::Gt => numbers::compare::<Gt>(d, stacks),
-        Opcode::LtEq => numbers::compare::<LtEq>(d, stacks),
-        Opcode::GtEq => numbers::compare::<GtEq>(d, stacks),
-        Opcode::Jump => control::jump(x, d, i, code, n),
-        Opcode::JumpIfFalse => control::jump_if::<false>(x, y, d, i, code, n, stacks),
-        Opcode::JumpIfTrue => control::jump_if::<true>(x, y, d, i, code, n, stacks),
-        Opcode::Throw => control::throw(x, y, d, stacks),
-        Opcode::EnterTry => control::enter_try(x, y, d, i, code, n, stacks),
-        Opcode::LeaveTry => control::leave_try(d),
-        Opcode::Pop => moves::pop(d),
-        Opcode::Dup => moves::dup(d, stacks),
+        Opcode::LOAD_CONST => moves::load_const(x, y, d, i, code, n, places, stacks),
+        Opcode::LOAD_LOCAL => moves::load_local(x, y, d, i, code, n, stacks),
+        Opcode::STORE_LOCAL => moves::store_local(x, y, d, i, code, n, stacks),
+        Opcode::ADD => numbers::compute::<Add>(d, stacks),
+        Opcode::SUB => numbers::compute::<Sub>(d, stacks),
+        Opcode::MUL => numbers::compute::<Mul>(d, stacks),
+        Opcode::DIV => numbers::compute::<Div>(d, stacks),
+        Opcode::LT => numbers::compare::<Lt>(d, stacks),
+        Opcode::GT => numbers::compare::<Gt>(d, stacks),
+        Opcode::LT_EQ => numbers::compare::<LtEq>(d, stacks),
+        Opcode::GT_EQ => numbers::compare::<GtEq>(d, stacks),
+        Opcode::JUMP => control::jump(x, d, i, code, n),
+        Opcode::JUMP_IF_FALSE => control::jump_if::<false>(x, y, d, i, code, n, stacks),
+        Opcode::JUMP_IF_TRUE => control::jump_if::<true>(x, y, d, i, code, n, stacks),
+        Opcode::THROW => control::throw(x, y, d, stacks),
+        Opcode::ENTER_TRY => control::enter_try(x, y, d, i, code, n, stacks),
+        Opcode::LEAVE_TRY => control::leave_try(d),
+        Opcode::POP => moves::pop(d),
+        Opcode::DUP => moves::dup(d, stacks),
         _ => None,
     }
 }
@@ -192,7 +190,7 @@ pub fn step(
     let p = d.ip;
     if p < y.last {
         let at = x.shape.at + p;
-        let op = opcode_at(code, at)?;
+        let op = opcode_at(code, at);
         let i = word_at(code, at + 1);
         return execute(op, x, y, d.with_ip(p + 1), i, code, n, places, stacks);
     }

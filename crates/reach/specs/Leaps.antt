@@ -18,8 +18,6 @@ use Rattle.stacks.specs.View
 use Rattle.stacks.specs.declared.Depths.{Depths}
 use Rattle.texts.specs.Keeps.{text_limit, Keeps, appended, full}
 use Rattle.texts.specs.Sources.{stores_of}
-use Rattle.opcode.specs.Programs.{instruction_of}
-use Rattle.opcode.specs.declared.Opcode.{Opcode}
 use Rattle.outcome.specs.Meets.{Pairs, joins, pair_both}
 use Rattle.fetch.specs.declared.Running.{Running}
 use Rattle.fetch.specs.Running.{Runs}
@@ -30,7 +28,7 @@ use Rattle.heapops.specs.Turns.{Mem, mem, below, state_of, with_depths, turned, 
 use Rattle.heapops.specs.Follows.{weaken}
 use Rattle.heapops.specs.Makes.{with_text, text_pushed_lem, joined}
 use Rattle.finish.specs.Parts.{Tables, Ground}
-use Rattle.quick.specs.Quickly.{DecodesAt, Inside}
+use Rattle.quick.specs.Quickly.{Inside}
 use Rattle.reach.specs.Reaches as Reach
 use Rattle.reach.specs.Reaches.{Reaches, counted}
 
@@ -117,9 +115,9 @@ module _ {x : Running} (c : Counts) (g : Tables) {w : List ℕ} (i : Inside x c.
   step_told h t o m' (Some (a, k)) f n j = (λ s u. Reach.begun c g i r l h t o f n s u ∙ j.0.goes s (record { code = u.code; images = u.images; known = u.known }), j.1, j.2)
   step_told h t o m' None f n j = j
 
-  pub leap_goes : {op : Opcode} {h t : List ℕ} {e : Counts} {d : Depths} {m' : Mem} {q : Option (Depths × ℕ)} (o : List ℕ) → DecodesAt g.code (x.shape.at + c.depths.ip) (Some op)
-      → d ≡ with_ip (c.depths.ip + 1) c.depths → e ≡ with_depths d c → Leaps (Ground x e g) (instruction_of op) e (mem w h t o) q m' → LeapStep (Ground x c g) c (mem w h t o) q m'
-  leap_goes {op} {h} {t} {e} {d} {m'} {q} o f y z j =
+  pub leap_goes : {b : ℕ} {h t : List ℕ} {e : Counts} {d : Depths} {m' : Mem} {q : Option (Depths × ℕ)} (o : List ℕ) → b ≡ slice_index g.code (x.shape.at + c.depths.ip) → b < 256
+      → d ≡ with_ip (c.depths.ip + 1) c.depths → e ≡ with_depths d c → Leaps (Ground x e g) (I.instruction b) e (mem w h t o) q m' → LeapStep (Ground x c g) c (mem w h t o) q m'
+  leap_goes {b} {h} {t} {e} {d} {m'} {q} o f k y z j =
       let v : e ≡ moved c = z ∙ ap (λ (u : Depths). with_depths u c) y in
-      let u : Leaps (Ground x (moved c) g) (instruction_of op) (moved c) (mem w h t o) q m' = subst (λ (a : Counts). Leaps (Ground x a g) (instruction_of op) a (mem w h t o) q m') v j in
-      record { told = step_told h t o m' q refl f.small (subst (λ (p : Program). Told (Ground x (moved c) g) p (moved c) (mem w h t o) q m') (sym f.is) u.told) }
+      let u : Leaps (Ground x (moved c) g) (I.instruction b) (moved c) (mem w h t o) q m' = subst (λ (a : Counts). Leaps (Ground x a g) (I.instruction b) a (mem w h t o) q m') v j in
+      record { told = step_told h t o m' q f k u.told }

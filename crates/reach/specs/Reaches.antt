@@ -13,8 +13,6 @@ use Rattle.texts.specs.Sources.{stores_of}
 use Rattle.heap.specs.View.{held_in}
 use Rattle.heap.specs.View as Heap
 use Rattle.heap.specs.declared.Sizes.{Sizes}
-use Rattle.opcode.specs.Programs.{instruction_of}
-use Rattle.opcode.specs.declared.Opcode.{Opcode}
 use Rattle.outcome.specs.Meets.{Any}
 use Rattle.fetch.specs.declared.Running.{Running}
 use Rattle.fetch.specs.Running.{Runs, Coded}
@@ -29,7 +27,7 @@ use Rattle.finish.specs.Laws.{to_coded, to_constants, looks_named, looks_callabl
 use Rattle.reach.specs.Distinct.{Distinct}
 use Rattle.quick.specs.Stays.{Stays, stays_from, kept_ip}
 use Rattle.quick.specs.Quickly as Q
-use Rattle.quick.specs.Quickly.{DecodesAt, Quickly, Inside, first}
+use Rattle.quick.specs.Quickly.{Quickly, Inside, first}
 
 -- what is answered, but for the row
 abbrev pub quick_in : Option (Depths × ℕ) → (Option Depths)
@@ -146,11 +144,11 @@ module _ {x : Running} (c : Counts) (g : Tables) {w : List ℕ} (i : Inside x c.
   step_told D h t o m' (Some a) f k j = (λ s u. begun h t o f k s u.0 ∙ j.0.goes s (record { code = u.0.code; images = u.0.images; known = u.0.known }, u.1), j.1)
   step_told D h t o m' None f k j = j
 
-  pub step_goes : {op : Opcode} {h t : List ℕ} {e : Counts} {d : Depths} {m' : Mem} {q : Option Depths} (o : List ℕ) → DecodesAt g.code (x.shape.at + c.depths.ip) (Some op)
-      → d ≡ with_ip (c.depths.ip + 1) c.depths → e ≡ with_depths d c → Reaches (Sure (Distinct e.sizes h e.text t) (Ground x e g)) (instruction_of op) e (mem w h t o) q m'
+  pub step_goes : {b : ℕ} {h t : List ℕ} {e : Counts} {d : Depths} {m' : Mem} {q : Option Depths} (o : List ℕ) → b ≡ slice_index g.code (x.shape.at + c.depths.ip) → b < 256
+      → d ≡ with_ip (c.depths.ip + 1) c.depths → e ≡ with_depths d c → Reaches (Sure (Distinct e.sizes h e.text t) (Ground x e g)) (I.instruction b) e (mem w h t o) q m'
       → ReachStep (Sure (Distinct c.sizes h c.text t) (Ground x c g)) c (mem w h t o) q m'
-  step_goes {op} {h} {t} {e} {d} {m'} {q} o f y z j =
+  step_goes {b} {h} {t} {e} {d} {m'} {q} o f k y z j =
       let v : e ≡ moved c = z ∙ ap (λ (u : Depths). with_depths u c) y in
-      let u : Reaches (Sure (Distinct c.sizes h c.text t) (Ground x (moved c) g)) (instruction_of op) (moved c) (mem w h t o) q m' =
-      subst (λ (a : Counts). Reaches (Sure (Distinct a.sizes h a.text t) (Ground x a g)) (instruction_of op) a (mem w h t o) q m') v j in
-      record { told = step_told (Distinct c.sizes h c.text t) h t o m' q refl f.small (subst (λ (p : Program). Told (Sure (Distinct c.sizes h c.text t) (Ground x (moved c) g)) p (moved c) (mem w h t o) q m') (sym f.is) u.told) }
+      let u : Reaches (Sure (Distinct c.sizes h c.text t) (Ground x (moved c) g)) (I.instruction b) (moved c) (mem w h t o) q m' =
+      subst (λ (a : Counts). Reaches (Sure (Distinct a.sizes h a.text t) (Ground x a g)) (I.instruction b) a (mem w h t o) q m') v j in
+      record { told = step_told (Distinct c.sizes h c.text t) h t o m' q f k u.told }

@@ -1,14 +1,13 @@
 //! What leaves the frame or makes a text: a call of a function that is known, a return, a throw that takes frames off, texts joined.
 ghost use Rattle.std.specs.Prelude.{◌≡◌, ℕ, ◌+◌, ◌<◌, ◌≤◌, ◌||◌, List, length};
 ghost use Rattle.machine.specs.Convert.{is_text};
-ghost use Rattle.machine.specs.Instruction.{Add, Call};
+ghost use Rattle.machine.specs.Instruction.{Add, Call, instruction};
 ghost use Rattle.value.specs.Words.{value_of};
 ghost use Rattle.stacks.specs.View.{Ready};
 ghost use Rattle.texts.specs.Keeps.{text_limit};
 ghost use Rattle.heap.specs.View.{Sized, held_in};
 ghost use Rattle.fetch.specs.Running.{Runs};
 ghost use Rattle.readops.specs.Holds.{Callable};
-ghost use Rattle.opcode.specs.Programs.{instruction_of};
 ghost use Rattle.heapops.specs.Turns.{mem, Loaded};
 ghost use Rattle.finish.specs.Parts.{Ground, tables};
 ghost use Rattle.quick.specs.Quickly.{Quickly, Inside};
@@ -98,7 +97,7 @@ fn call(
 
 // x is the template of the newest frame.
 fn execute(
-    op: Opcode,
+    op: u8,
     x: Running,
     c: Counts,
     code: &[u8],
@@ -113,13 +112,13 @@ fn execute(
     requires inside { Inside x c.code code.now }
     requires sized { Sized c.sizes heap.now }
     requires text_le_text_limit { (c.text ≤ text_limit) × (length text.old ≡ text_limit) }
-    ensures { (places o : List ℕ) → Leaps (Ground x c (tables code.now places rows.now starts.now)) (instruction_of op) c (mem stacks.old heap.now text.old o) result (mem stacks.new heap.now text.new o) }
+    ensures { (places o : List ℕ) → Leaps (Ground x c (tables code.now places rows.now starts.now)) (instruction op) c (mem stacks.old heap.now text.old o) result (mem stacks.new heap.now text.new o) }
 {
     match op {
-        Opcode::Add => join(c, code, stacks, text),
-        Opcode::Call => with_count(call(x, c, code, rows, starts, stacks, heap), c.text),
-        Opcode::Return => with_count(control::return_value(c.depths, stacks), c.text),
-        Opcode::Throw => with_count(control::throw_far(c.depths, stacks), c.text),
+        Opcode::ADD => join(c, code, stacks, text),
+        Opcode::CALL => with_count(call(x, c, code, rows, starts, stacks, heap), c.text),
+        Opcode::RETURN => with_count(control::return_value(c.depths, stacks), c.text),
+        Opcode::THROW => with_count(control::throw_far(c.depths, stacks), c.text),
         _ => None,
     }
 }
@@ -145,7 +144,7 @@ pub fn step(
     let d = c.depths;
     let p = d.ip;
     if p < x.shape.size {
-        let op = opcode_at(code, x.shape.at + p)?;
+        let op = opcode_at(code, x.shape.at + p);
         let e = c.with_depths(d.with_ip(p + 1));
         return execute(op, x, e, code, rows, starts, stacks, heap, text);
     }

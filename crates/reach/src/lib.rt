@@ -9,11 +9,11 @@ pub mod names;
 pub mod stores;
 
 ghost use Rattle.std.specs.Prelude.{◌≡◌, ℕ, ◌+◌, ◌<◌, ◌≤◌, List, length};
+ghost use Rattle.machine.specs.Instruction.{instruction};
 ghost use Rattle.stacks.specs.View.{Ready};
 ghost use Rattle.texts.specs.Keeps.{text_limit};
 ghost use Rattle.heap.specs.View.{Sized};
 ghost use Rattle.fetch.specs.Running.{Runs};
-ghost use Rattle.opcode.specs.Programs.{instruction_of};
 ghost use Rattle.heapops.specs.Turns.{mem};
 ghost use Rattle.finish.specs.Parts.{Ground, tables};
 ghost use Rattle.quick.specs.Quickly.{Inside, Operand};
@@ -36,7 +36,7 @@ pub fn with_count(q: Option<Depths>, n: usize) -> Option<(Depths, usize)>
 
 // x is the template of the newest frame; i is the operand that follows the opcode, if it has one.
 fn execute(
-    op: Opcode,
+    op: u8,
     x: Running,
     c: Counts,
     i: usize,
@@ -53,22 +53,22 @@ fn execute(
     requires code_in_bounds { c.code ≤ length code.now }
     requires sized { Sized c.sizes heap.old }
     requires text_le_text_limit { (c.text ≤ text_limit) × (length text.now ≡ text_limit) }
-    ensures reaches { (rows starts o : List ℕ) → Reaches (Sure (Distinct c.sizes heap.old c.text text.now) (Ground x c (tables code.now places.now rows starts))) (instruction_of op) c (mem stacks.old heap.old text.now o) (quick_in result) (mem stacks.new heap.new text.now o) }
+    ensures reaches { (rows starts o : List ℕ) → Reaches (Sure (Distinct c.sizes heap.old c.text text.now) (Ground x c (tables code.now places.now rows starts))) (instruction op) c (mem stacks.old heap.old text.now o) (quick_in result) (mem stacks.new heap.new text.now o) }
     ensures stays { Stays c.depths stacks.old (quick_in result) stacks.new }
 {
     match op {
-        Opcode::LoadGlobal => loads::load_global(x, c, i, guess, code, places, stacks, heap, text),
-        Opcode::StoreGlobal => stores::store_global(
+        Opcode::LOAD_GLOBAL => loads::load_global(x, c, i, guess, code, places, stacks, heap, text),
+        Opcode::STORE_GLOBAL => stores::store_global(
             x, c, i, guess, code, places, stacks, heap, text,
         ),
-        Opcode::LoadProperty => loads::load_property(
+        Opcode::LOAD_PROPERTY => loads::load_property(
             x, c, i, guess, code, places, stacks, heap, text,
         ),
-        Opcode::StoreProperty => stores::store_property(
+        Opcode::STORE_PROPERTY => stores::store_property(
             x, c, i, guess, code, places, stacks, heap, text,
         ),
-        Opcode::LoadIndex => elements::load_index(c, guess, stacks, heap, text),
-        Opcode::StoreIndex => elements::store_index(c, guess, stacks, heap, text),
+        Opcode::LOAD_INDEX => elements::load_index(c, guess, stacks, heap, text),
+        Opcode::STORE_INDEX => elements::store_index(c, guess, stacks, heap, text),
         _ => None,
     }
 }
@@ -97,7 +97,7 @@ pub fn step(
     let p = d.ip;
     if p < y.last {
         let at = x.shape.at + p;
-        let op = opcode_at(code, at)?;
+        let op = opcode_at(code, at);
         let i = word_at(code, at + 1);
         let e = c.with_depths(d.with_ip(p + 1));
         return execute(op, x, e, i, guess, code, places, stacks, heap, text);
