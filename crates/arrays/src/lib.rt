@@ -26,8 +26,8 @@ ghost use Rattle.arrays.specs.Keys.{keys_size};
 ghost use Rattle.arrays.specs.Arrays.{given, Laying};
 
 use heap::{Heap, OBJECT_LIMIT, ObjectType, PROPERTIES_AT, PROPERTY_LIMIT, Sizes};
-use number::format::LONGEST_TEXT;
 use number::JsNumber;
+use number::format::LONGEST_TEXT;
 use objects::PROPERTIES;
 use texts::{Source, TEXT_LIMIT, Texts};
 use value::{Space, Value};

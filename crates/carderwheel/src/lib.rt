@@ -83,9 +83,7 @@ pub extern "C" fn carderwheel_register_in(
         rows,
         starts,
     };
-    let x = engine::images::register(
-        images, stacks, heap, text, output, counts, image, template,
-    );
+    let x = engine::images::register(images, stacks, heap, text, output, counts, image, template);
     answered(counts, x)
 }
 

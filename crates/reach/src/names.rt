@@ -34,6 +34,8 @@ fn row_is(text: &[u8], heap: &[u64], k: usize, head: u64, key: &[u8]) -> bool
     texts::equal_bytes(texts::cut(text, heap[k + 1], size), key)
 }
 
+// The test of the guess is compiled into the callers, and the search stands apart; so for the next.
+#[inline(always)]
 pub fn find_property(
     text: &[u8],
     heap: &[u64],
@@ -52,6 +54,7 @@ pub fn find_property(
 }
 
 // `console`, whose name is kept nowhere, is searched.
+#[inline(always)]
 pub fn find_global(
     text: &[u8],
     heap: &[u64],

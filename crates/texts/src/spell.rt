@@ -11,8 +11,8 @@ ghost use Rattle.texts.specs.Spells.{laid_out, spelling_bytes, Says, Spells};
 ghost use Rattle.texts.specs.Keeps.{text_limit, Keeps};
 
 use crate::{Source, TEXT_LIMIT, Texts, append, copy};
-use number::format::{LONGEST_TEXT, Layout};
 use number::JsNumber;
+use number::format::{LONGEST_TEXT, Layout};
 use value::Value;
 
 /// The text of a value, before it is written anywhere.
