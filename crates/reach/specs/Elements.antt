@@ -1,5 +1,5 @@
 -- Elements of arrays, and properties of objects by a number. Assumes nothing.
-use Rattle.std.specs.Prelude.{◌≡◌, ℕ, zero, suc, ◌+◌, ◌-◌, ◌*◌, ◌/◌, ◌%◌, ◌^◌, ◌<◌, ◌≤◌, Bool, true, false, ◌&&◌, List, [], ◌∷◌, ◌++◌, length, take, drop, ◌==◌, ◌≢◌, nat_lt, slice_index, refl, Option, Some, None, Result, Ok}
+use Rattle.std.specs.Prelude.{◌≡◌, ℕ, zero, suc, ◌+◌, ◌-◌, ◌*◌, ◌/◌, ◌%◌, ◌^◌, ◌<◌, ◌≤◌, Bool, true, false, ◌&&◌, List, [], ◌∷◌, ◌++◌, length, take, drop, ◌==◌, nat_lt, slice_index, refl, Option, Some, None, Result, Ok}
 use Rattle.std.proofs.Common.{arith, sym, ap, subst, ◌∙◌, length-append, drop_of_length-le, take_at, drop-cons, le-leb, lt-ltb, ltb-true, ltb-false, eq-eqb, eqb-true}
 use Rattle.std.proofs.Math.Option.{none, some}
 use Rattle.std.proofs.Math.ListN.{get_elem?}
@@ -203,13 +203,14 @@ pub record Reading (s : List ℕ) (n i m : ℕ) : Type 0 where
   pub same_digits : N.decimal n ≡ N.decimal_onto (suc most) m (drop i s)
   pub fits : m < 10 ^ suc most
   pub within : i ≤ length s
+  pub left : 1 ≤ i
 
-pub reading_start : (s : List ℕ) (n : ℕ) → n < 2 ^ 64 → Reading s n (length s) n
-reading_start s n h =
-    record { most = 19; same_digits = ap (λ (x : List ℕ). N.decimal_onto 20 n x) (sym (drop_of_length-le s {i = length s} (omega arith))); fits = omega arith; within = omega arith }
+pub reading_start : (s : List ℕ) (n : ℕ) → n < 2 ^ 64 → 1 ≤ length s → Reading s n (length s) n
+reading_start s n h l =
+    record { most = 19; same_digits = ap (λ (x : List ℕ). N.decimal_onto 20 n x) (sym (drop_of_length-le s {i = length s} (omega arith))); fits = omega arith; within = omega arith; left = l }
 
 module _ {s : List ℕ} {n i m : ℕ} (r : Reading s n i m) where
-  pub reading_more : 10 ≤ m → (i ≢ 0) → slice_index s (i - 1) ≡ 48 + m % 10 → Reading s n (i - 1) (m / 10)
+  pub reading_more : 10 ≤ m → 1 < i → slice_index s (i - 1) ≡ 48 + m % 10 → Reading s n (i - 1) (m / 10)
   reading_more h z e = go r.most r.same_digits r.fits
     where
       behind : drop (i - 1) s ≡ (48 + m % 10) ∷ drop i s
@@ -224,10 +225,12 @@ module _ {s : List ℕ} {n i m : ℕ} (r : Reading s n i m) where
         same_digits = a ∙ decimal_more (suc f) m (drop i s) h ∙ ap (λ (x : List ℕ). N.decimal_onto (suc f) (m / 10) x) (sym behind);
         fits = omega arith;
         within = omega (arith, r.within);
+        left = omega (arith, z);
       }
 
-  pub reading_all : m < 10 → i ≡ 1 → slice_index s 0 ≡ 48 + m → N.decimal n ≡ s
-  reading_all h z e =
+  pub reading_all : m < 10 → i ≤ 1 → slice_index s 0 ≡ 48 + m → N.decimal n ≡ s
+  reading_all h l e =
+      let z : i ≡ 1 = omega (arith, l, r.left) in
       r.same_digits ∙ decimal_last r.most m (drop i s) h ∙ ap (λ (x : ℕ). (48 + m) ∷ drop x s) z
       ∙ sym (drop-cons s 0 0 (omega (arith, z, r.within)) ∙ ap (λ (x : ℕ). x ∷ drop 1 s) e)
 

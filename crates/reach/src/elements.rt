@@ -56,25 +56,21 @@ fn index_of(v: u64) -> Option<u64>
 }
 
 // Are the bytes the digits of n? The last is the lowest.
+#[tactic(auto, using(crate::specs::Elements::reading_start, crate::specs::Elements::reading_more))]
 fn are_digits(s: &[u8], n: u64) -> bool
     ensures { result ≡ true → decimal n ≡ s.now }
 {
-    let mut i = s.len();
+    let [first, ..] = s else {
+        return false;
+    };
     let mut m = n;
-    while 10 <= m {
-        if i == 0 {
-            return false;
-        }
-        i -= 1;
-        if u64::from(s[i]) != 48 + m % 10 {
+    for i in (1..s.len()).rev() {
+        if m < 10 || u64::from(s[i]) != 48 + m % 10 {
             return false;
         }
         m /= 10;
     }
-    if i != 1 {
-        return false;
-    }
-    u64::from(s[0]) == 48 + m
+    m < 10 && u64::from(*first) == 48 + m
 }
 
 // Is a number's text the key of the row at place k? Nothing is written for it; but where the number is not whole, it is not told.

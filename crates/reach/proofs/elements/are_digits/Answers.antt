@@ -1,9 +1,8 @@
-use Rattle.std.proofs.Common.{arith}
-use Rattle.reach.specs.Elements.{reading_start, reading_more}
+use Rattle.std.proofs.Common.{arith, eqb-true, ◌+◌}
+use Rattle.reach.specs.Elements.{reading_all}
 use Rattle.reach.proofs.elements.are_digits.Goals as goal
 
-pub loop-m-init : goal.loop-m-init
-loop-m-init c = reading_start _ _ (omega (arith, c.ranges))
-
-pub loop-m-preserved : goal.loop-m-preserved
-loop-m-preserved c = reading_more c.loop-m.invariant (omega (arith, c.loop-m-test.true)) c.if-i-eq0.false (omega (arith, c.from.ensures, c.if-from-m.false))
+pub returns-then-m-lt10-2 : goal.returns-then-m-lt10-2
+returns-then-m-lt10-2 c = λ q.
+    let first = c.from-then-m-lt10-2 in
+    reading_all c.loop-i.invariant (omega (arith, c.if-m-lt10-2.true)) (omega (arith, c.loop-i-test.false)) (omega (arith, first.ensures, eqb-true first.result (48 + c.loop-i.m) q))
