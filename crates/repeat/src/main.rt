@@ -6,7 +6,7 @@ use host::Refusal;
 use report::Stores;
 use run::Ran;
 use std::fmt;
-use std::io::{self, BufRead, Read};
+use std::io::{self, Read};
 
 // The bytes of standard input that are taken.
 const MOST: u64 = 70000;
@@ -59,14 +59,30 @@ fn many(stores: &mut Stores, image: &[u8], count: u64) -> Last {
     last
 }
 
+// A number with one digit more, as far as it is short; a byte below the digits is passed over.
+fn longer(n: u64, b: u8) -> u64 {
+    match b.checked_sub(b'0') {
+        Some(digit) if n < 100000000 => (n * 10).wrapping_add(u64::from(digit)),
+        _ => n,
+    }
+}
+
+// The count, and the image behind the first line end; without one nothing is run.
+fn counted(input: &[u8]) -> (u64, &[u8]) {
+    match input.iter().position(|b| *b == b'\n') {
+        Some(end) => {
+            let count = input[..end].iter().fold(0, |n, b| longer(n, *b));
+            (count, &input[end + 1..])
+        }
+        None => (0, b""),
+    }
+}
+
 fn main(rt: HostRuntime) -> io::Result<()> {
-    let mut input = rt.reader().take(MOST);
-    let mut head = String::new(rt.alloc());
-    input.read_line(&mut head)?;
-    let mut image = Vec::new(rt.alloc());
-    input.read_to_end(&mut image)?;
-    let count = head.trim_end().parse::<u64>().unwrap_or(0);
+    let mut input = Vec::new(rt.alloc());
+    rt.reader().take(MOST).read_to_end(&mut input)?;
+    let (count, image) = counted(input.as_slice());
     let mut stores = Stores::filled(0);
-    let last = many(&mut stores, image.as_slice(), count);
+    let last = many(&mut stores, image, count);
     println!(rt; "{last}")
 }
