@@ -56,24 +56,18 @@ struct Tally {
     cut: bool,
 }
 
-fn unknown_byte(e: Result<Value, Stop>) -> Option<u64> {
-    match e {
-        Err(Stop::Failed(JsVmError::UnknownOpcode(b))) => Some(u64::from(b)),
-        _ => None,
-    }
-}
-
 // The number, then the value of 0 and of 17 and the byte of 13.
 fn ended(held: Held<'_>, list: &mut List<'_>, e: Result<Value, Stop>) -> Result<(), Differs> {
-    let number = run::end_number(e);
-    want(list.byte(), number, Differs::End)?;
-    match number {
-        0 | 17 => held.value(list, run::end_value(e), Differs::Payload),
-        13 => {
-            let byte = list.byte().ok_or(Differs::Payload)?;
-            want(unknown_byte(e), byte, Differs::Payload)
+    want(list.byte(), run::end_number(e), Differs::End)?;
+    match e {
+        Ok(v) => held.value(list, v, Differs::Payload),
+        Err(Stop::Failed(JsVmError::UncaughtException(v))) => {
+            held.value(list, v, Differs::Payload)
         }
-        _ => Ok(()),
+        Err(Stop::Failed(JsVmError::UnknownOpcode(b))) => {
+            want(list.byte(), u64::from(b), Differs::Payload)
+        }
+        Err(_) => Ok(()),
     }
 }
 
