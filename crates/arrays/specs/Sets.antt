@@ -20,7 +20,7 @@ use Rattle.value.specs.declared.Value.{Value}
 use Rattle.value.specs.declared.Space.TheVariants.{Properties}
 use Rattle.texts.specs.Keeps.{text_limit}
 use Rattle.texts.specs.Overwrite.{overwrite_below, overwrite_under}
-use Rattle.texts.specs.Sources.{source_bytes, stores_of}
+use Rattle.texts.specs.Sources.{source_bytes, texts_of}
 use Rattle.texts.specs.Spans.{Places}
 use Rattle.std.specs.declared.ops.Range.{Range}
 use Rattle.texts.specs.declared.Source.{Source}
@@ -164,11 +164,11 @@ module _ (z : Sizes) (w : List ℕ) (m : ℕ) (t : List ℕ) (good : Sized z w) 
 
 -- A source that names the same bytes when text is added
 pub record Settles (m : ℕ) (key r : Source) : Type 0 where
-  pub bytes : (c t t₁ b : List ℕ) (n e : ℕ) → m ≤ e → ((j : ℕ) → j < m → slice_index t₁ j ≡ slice_index t j) → source_bytes (stores_of c n t₁ e) b r ≡ source_bytes (stores_of c n t m) b key
+  pub bytes : (c t t₁ : List ℕ) (e : ℕ) → m ≤ e → ((j : ℕ) → j < m → slice_index t₁ j ≡ slice_index t j) → source_bytes (texts_of c t₁ e) r ≡ source_bytes (texts_of c t m) key
 
 pub settles_text : (m : ℕ) (key : Source) (at size : ℕ) (p : Range ℕ) → key ≡ Text-as-Source at size → Places at size m p → Settles m key (Text-as-Source p.start (p.end - p.start))
 settles_text m key at size p q l = rw q (record {
-  bytes = λ c t t₁ b n e h f.
+  bytes = λ c t t₁ e h f.
       let long : length (bytes_of t₁ e) ≡ e = row_length e (λ i. slice_index t₁ i) in
       let low : bytes_of (bytes_of t₁ e) m ≡ bytes_of t m =
       row_ext m (λ i. slice_index (bytes_of t₁ e) i) (λ i. slice_index t i) (λ i g. row_at_lem e (λ j. slice_index t₁ j) i 0 (omega arith) ∙ f i g) in
@@ -212,9 +212,9 @@ module _ (z : Sizes) (w : List ℕ) (m : ℕ) (t : List ℕ) (good : Sized z w) 
         let text : bytes_of t₁ m ≡ bytes_of t m = ap (λ (u : List ℕ). bytes_of u m) lay.text ∙ overwrite_under t m length_key (omega (arith, long)) m (omega arith) in
         ap (λ (u : St.State). Fi.set_text (bytes_of t₁ m) u) heap ∙ ap (λ (u : List ℕ). Fi.set_text u (on_heap z w s)) text
 
-    pub missing_settled : (c b : List ℕ) (d : ℕ) (key own : Source) → Settles m key own → k ≡ source_bytes (stores_of c d t m) b key → source_bytes (stores_of c d t₁ e) b own ≡ k
-    missing_settled c b d key own s q =
-        s.bytes c t t₁ b d e (omega (arith, lay.count)) (λ j r. ap (λ (u : List ℕ). slice_index u j) lay.text ∙ overwrite_below t m length_key (omega (arith, long)) j r) ∙ sym q
+    pub missing_settled : (c : List ℕ) (key own : Source) → Settles m key own → k ≡ source_bytes (texts_of c t m) key → source_bytes (texts_of c t₁ e) own ≡ k
+    missing_settled c key own s q =
+        s.bytes c t t₁ e (omega (arith, lay.count)) (λ j r. ap (λ (u : List ℕ). slice_index u j) lay.text ∙ overwrite_below t m length_key (omega (arith, long)) j r) ∙ sym q
 
     pub missing_put : (x : Result (Sizes × ℕ) Space) (w₂ t₂ : List ℕ) (k' : List ℕ) → k' ≡ k → Puts (A.put_property o k' v) y w₁ e t₁ x w₂ t₂ → Stretches o i k v z w m t x w₂ t₂
     missing_put x w₂ t₂ k' same d = record {

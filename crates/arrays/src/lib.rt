@@ -6,7 +6,7 @@ ghost use Rattle.machine.specs.Act.{add_array};
 ghost use Rattle.machine.specs.Convert.{length_key};
 ghost use Rattle.machine.specs.Value.{number};
 ghost use Rattle.value.specs.Lists.{bytes_of};
-ghost use Rattle.texts.specs.Sources.{stores_of, source_bytes};
+ghost use Rattle.texts.specs.Sources.{texts_of, source_bytes};
 ghost use Rattle.heap.specs.Rows.{Finds};
 ghost use Rattle.heap.specs.Finds.{pair_at};
 ghost use Rattle.arrays.specs.Sets.{Sets, SetsIn, Stretches, Settles};
@@ -63,9 +63,9 @@ fn keys_size(count: usize) -> usize
     sum + 6
 }
 
-pub fn element_key(i: usize, buffer: &mut [u8; LONGEST_TEXT]) -> Source
+pub fn element_key(i: usize, buffer: &mut [u8; LONGEST_TEXT]) -> Source<'_>
     requires { (i < 65536) × (length buffer.old ≡ longest_text) }
-    ensures { Spells (λ m. decimal i) result buffer.new }
+    ensures { Spells (λ m. decimal i) result }
 {
     texts::spell::to_js_string(whole(i as u64), buffer)
 }
@@ -157,18 +157,7 @@ pub fn add_array(
     let e = lay_elements(y, heap, text, m, stacks, from, argc, count, id);
     let k = PROPERTIES_AT + 6 * (y.properties + count);
     let v = whole(count as u64);
-    let end = objects::lay_row(
-        heap,
-        k,
-        b"",
-        0,
-        text,
-        e,
-        b"length",
-        id,
-        Source::Buffer(6),
-        v,
-    );
+    let end = objects::lay_row(heap, k, b"", text, e, id, Source::Bytes(b"length"), v);
     let properties = y.properties + count + 1;
     Ok((Sizes { properties, ..y }, end))
 }
@@ -179,10 +168,8 @@ fn stretch(
     z: Sizes,
     heap: &mut [u64],
     code: &[u8],
-    n: usize,
     text: &mut [u8],
     m: usize,
-    buffer: &[u8],
     id: u64,
     key: Source,
     v: Value,
@@ -190,22 +177,22 @@ fn stretch(
     i: u64,
 ) -> Result<(Sizes, usize), Space>
     requires sized { Sized z heap.old }
-    requires n_in_bounds { (n ≤ length code.now) × (m ≤ text_limit) × (length text.old ≡ text_limit) }
+    requires m_le_text_limit { (m ≤ text_limit) × (length text.old ≡ text_limit) }
     requires finds { Finds (pair_at (bytes_of text.old m) heap.old id length_key) z.properties (Some j) }
-    ensures { Stretches id i (source_bytes (stores_of code.now n text.old m) buffer.now key) (value_of v) z heap.old m text.old result heap.new text.new }
+    ensures { Stretches id i (source_bytes (texts_of code.now text.old m) key.entry) (value_of v) z heap.old m text.old result heap.new text.new }
 {
     let count = z.properties;
-    let found = objects::seek_property(heap, count, code, n, text, m, buffer, id, key)?;
+    let found = objects::seek_property(heap, count, code, text, m, id, key)?;
     value::write(heap, PROPERTIES_AT + 6 * j + 3, whole(i.wrapping_add(1)));
     let (properties, e) = objects::put_row(
-        PROPERTIES, count, found, heap, code, n, text, m, buffer, id, key, v,
+        PROPERTIES, count, found, heap, code, text, m, id, key, v,
     );
     Ok((Sizes { properties, ..z }, e))
 }
 
 // A key that names the same bytes when text is added behind the m bytes in use.
-fn settled(key: Source, m: usize) -> Source
-    ensures { Settles m key result }
+fn settled(key: Source<'_>, m: usize) -> Source<'_>
+    ensures { Settles m key.entry result }
 {
     match key {
         Source::Text(at, size) => {
@@ -221,19 +208,17 @@ fn stretch_bare(
     z: Sizes,
     heap: &mut [u64],
     code: &[u8],
-    n: usize,
     text: &mut [u8],
     m: usize,
-    buffer: &[u8],
     id: u64,
     key: Source,
     v: Value,
     i: u64,
 ) -> Result<(Sizes, usize), Space>
     requires sized { Sized z heap.old }
-    requires n_in_bounds { (n ≤ length code.now) × (m ≤ text_limit) × (length text.old ≡ text_limit) }
+    requires m_le_text_limit { (m ≤ text_limit) × (length text.old ≡ text_limit) }
     requires finds { Finds (pair_at (bytes_of text.old m) heap.old id length_key) z.properties None }
-    ensures { Stretches id i (source_bytes (stores_of code.now n text.old m) buffer.now key) (value_of v) z heap.old m text.old result heap.new text.new }
+    ensures { Stretches id i (source_bytes (texts_of code.now text.old m) key.entry) (value_of v) z heap.old m text.old result heap.new text.new }
 {
     let count = z.properties;
     objects::room(PROPERTIES, count, None, m, 6)?;
@@ -244,16 +229,14 @@ fn stretch_bare(
         None,
         heap,
         b"",
-        0,
         text,
         m,
-        b"length",
         id,
-        Source::Buffer(6),
+        Source::Bytes(b"length"),
         whole(i.wrapping_add(1)),
     );
     let more = Sizes { properties, ..z };
-    objects::put_property(more, heap, code, n, text, e, buffer, id, own, v)
+    objects::put_property(more, heap, code, text, e, id, own, v)
 }
 
 // A store into an array.
@@ -261,30 +244,28 @@ fn set_element(
     z: Sizes,
     heap: &mut [u64],
     code: &[u8],
-    n: usize,
     text: &mut [u8],
     m: usize,
-    buffer: &[u8],
     id: u64,
     key: Source,
     v: Value,
 ) -> Result<(Sizes, usize), Space>
     requires sized { Sized z heap.old }
-    requires n_in_bounds { (n ≤ length code.now) × (m ≤ text_limit) × (length text.old ≡ text_limit) }
-    ensures { SetsIn id (source_bytes (stores_of code.now n text.old m) buffer.now key) (value_of v) z heap.old m text.old result heap.new text.new }
+    requires m_le_text_limit { (m ≤ text_limit) × (length text.old ≡ text_limit) }
+    ensures { SetsIn id (source_bytes (texts_of code.now text.old m) key.entry) (value_of v) z heap.old m text.old result heap.new text.new }
 {
-    let texts = Texts::new(code, n, text, m);
-    let Some(i) = convert::array_key(texts.bytes_of(buffer, key)) else {
-        return objects::put_property(z, heap, code, n, text, m, buffer, id, key, v);
+    let texts = Texts::with_code(code, text, m);
+    let Some(i) = convert::array_key(texts.bytes_of(key)) else {
+        return objects::put_property(z, heap, code, text, m, id, key, v);
     };
     let Some(j) = heap::find_property(texts.text(), heap, z.properties, id, b"length") else {
-        return stretch_bare(z, heap, code, n, text, m, buffer, id, key, v, i);
+        return stretch_bare(z, heap, code, text, m, id, key, v, i);
     };
     let length = value::read(heap, PROPERTIES_AT + 6 * j + 3);
     if i < convert::length_floor(length) {
-        return objects::put_property(z, heap, code, n, text, m, buffer, id, key, v);
+        return objects::put_property(z, heap, code, text, m, id, key, v);
     }
-    stretch(z, heap, code, n, text, m, buffer, id, key, v, j, i)
+    stretch(z, heap, code, text, m, id, key, v, j, i)
 }
 
 /// A store into a property of any value: questions 25 and 27 for a new key of a known object.
@@ -292,26 +273,22 @@ pub fn set_property(
     z: Sizes,
     heap: &mut [u64],
     code: &[u8],
-    n: usize,
     text: &mut [u8],
     m: usize,
-    buffer: &[u8],
     target: Value,
     key: Source,
     v: Value,
 ) -> Result<(Sizes, usize), Space>
     requires sized { Sized z heap.old }
-    requires n_in_bounds { (n ≤ length code.now) × (m ≤ text_limit) × (length text.old ≡ text_limit) }
-    ensures { Sets (value_of target) (source_bytes (stores_of code.now n text.old m) buffer.now key) (value_of v) z heap.old m text.old result heap.new text.new }
+    requires m_le_text_limit { (m ≤ text_limit) × (length text.old ≡ text_limit) }
+    ensures { Sets (value_of target) (source_bytes (texts_of code.now text.old m) key.entry) (value_of v) z heap.old m text.old result heap.new text.new }
 {
     let Value::Object(id) = target else {
         return Ok((z, m));
     };
     match Heap::new(z, heap).object_type(id) {
         None => Ok((z, m)),
-        Some(ObjectType::Ordinary) => objects::put_property(
-            z, heap, code, n, text, m, buffer, id, key, v,
-        ),
-        Some(ObjectType::Array) => set_element(z, heap, code, n, text, m, buffer, id, key, v),
+        Some(ObjectType::Ordinary) => objects::put_property(z, heap, code, text, m, id, key, v),
+        Some(ObjectType::Array) => set_element(z, heap, code, text, m, id, key, v),
     }
 }

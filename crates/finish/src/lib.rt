@@ -15,7 +15,7 @@ use heapops::{Counts, Turned, create, joining, print, stores};
 use opcode::{Change, Deferred, Lookup};
 use outcome::{Part, Stepped};
 use readops::{call, constants, lookups};
-use texts::Texts;
+use texts::{Texts, in_use};
 
 // Whatever an instruction does, the code and the images stay.
 fn steady(c: Counts, t: Turned) -> Turned
@@ -53,7 +53,7 @@ pub fn complete(
         Part::Ended(q) => heapops::ended(e, q),
         Part::Refused(q) => heapops::refused(e, q),
         Part::Register(i, t) => create::register(e, i, t, stacks, heap),
-        Part::Join(a, b) => joining::join(e, a, b, code, stacks, text),
+        Part::Join(a, b) => joining::join(e, a, b, in_use(code, c.code), stacks, text),
         Part::Print(k) => print::print(e, k, code, stacks, text, output),
     }
 }
@@ -106,7 +106,7 @@ fn change(
     match op {
         Change::StoreGlobal => stores::store_global(x, c, code, places, stacks, heap, text),
         Change::StoreProperty => stores::store_property(x, c, code, places, stacks, heap, text),
-        Change::StoreIndex => stores::store_index(c, code, stacks, heap, text),
+        Change::StoreIndex => stores::store_index(c, in_use(code, c.code), stacks, heap, text),
         Change::CreateObject => create::create_object(c, stacks, heap),
         Change::CreateArray => create::create_array(x, c, code, stacks, heap, text),
         Change::Typeof => joining::type_of(c, stacks, text),

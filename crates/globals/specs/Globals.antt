@@ -1,7 +1,7 @@
 -- The laws of set global and read global. Assumes nothing.
-use Rattle.std.specs.Prelude.{ℕ, Bool, true, false, ◌&&◌, List, ◌≡◌, refl, length, Ok, Err}
+use Rattle.std.specs.Prelude.{ℕ, Bool, true, ◌&&◌, List, ◌≡◌, refl, length, Ok, Err}
 use Rattle.std.proofs.Math.Option.{Option, none}
-use Rattle.std.proofs.Common.{sym, ap, ◌∙◌}
+use Rattle.std.proofs.Common.{ap, ◌∙◌}
 use Rattle.machine.specs.Basic.{is_ascii}
 use Rattle.machine.specs.State as St
 use Rattle.machine.specs.Act as A
@@ -9,13 +9,8 @@ use Rattle.machine.specs.Program.{next}
 use Rattle.machine.specs.Out.{went, out, out_next}
 use Rattle.machine.specs.Host as H
 use Rattle.value.specs.Errors.{space_of}
-use Rattle.value.specs.Lists.{bytes_of}
-use Rattle.value.specs.Words.{value_of}
-use Rattle.value.specs.declared.Value.{Value}
 use Rattle.texts.specs.Keeps.{on_output}
 use Rattle.stacks.specs.View.{on_stacks}
-use Rattle.heap.specs.View.{globals_of}
-use Rattle.heap.specs.Finds.{stores, global_in}
 use Rattle.objects.specs.View.{Puts}
 use Rattle.heapops.specs.declared.Counts.{Counts}
 use Rattle.heapops.specs.Turns.{Mem}
@@ -23,7 +18,7 @@ use Rattle.finish.specs.Parts.{Tables}
 use Rattle.run.specs.Runs.{state_in, ground_of}
 use Rattle.host.specs.Calls.{Called}
 use Rattle.host.specs.Lent.{Lent, lent_stored, with_stored, mem_stored}
-use Rattle.host.specs.Performs.{comes_went, called_no, called_full, called_done}
+use Rattle.host.specs.Performs.{comes_went, called_full, called_done}
 use Rattle.value.specs.declared.Space.{Space}
 use Rattle.heap.specs.declared.Sizes.{Sizes}
 

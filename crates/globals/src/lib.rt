@@ -15,7 +15,7 @@ ghost use Rattle.host.specs.Stores.{tables_of, mem_of};
 use heap::{Heap, Sizes};
 use heapops::Counts;
 use host::{Given, Images, Memory, Refusal, questions};
-use texts::{Source, Texts};
+use texts::{Source, Texts, in_use};
 use value::{Space, Value};
 
 // A global under a name: a text that is given as bytes is kept behind it.
@@ -23,22 +23,19 @@ fn put(
     z: Sizes,
     heap: &mut [u64],
     code: &[u8],
-    n: usize,
     text: &mut [u8],
     m: usize,
     name: &[u8],
     given: Given,
 ) -> Result<(Sizes, usize), Space>
     requires sized { Sized z heap.old }
-    requires n_in_bounds { (n ≤ length code.now) × (m ≤ text_limit) × (length text.old ≡ text_limit) }
+    requires m_le_text_limit { (m ≤ text_limit) × (length text.old ≡ text_limit) }
     ensures { Puts (put_global name.now (given_of given.entry)) z heap.old m text.old result heap.new text.new }
 {
-    let key = Source::Buffer(name.len() as u64);
+    let key = Source::Bytes(name);
     match given {
-        Given::Plain(v) => objects::put_global(z, heap, code, n, text, m, name, key, v),
-        Given::Bytes(bytes) => {
-            objects::put_global_text(z, heap, code, n, text, m, name, key, bytes)
-        }
+        Given::Plain(v) => objects::put_global(z, heap, code, text, m, key, v),
+        Given::Bytes(bytes) => objects::put_global_text(z, heap, code, text, m, key, bytes),
     }
 }
 
@@ -68,8 +65,7 @@ pub fn set_global(
     let (sizes, used) = put(
         c.sizes,
         heap,
-        images.code,
-        c.code,
+        in_use(images.code, c.code),
         text,
         c.text,
         name,

@@ -17,7 +17,7 @@ use Rattle.value.specs.declared.Value.{Value}
 use Rattle.value.specs.declared.Value.TheVariants.{MadeText}
 use Rattle.texts.specs.Keeps.{text_limit, output_limit, on_text, on_output, Keeps, Prints, kept_then, keeps_act, prints_act, appended, full}
 use Rattle.texts.specs.Lines.{values_at}
-use Rattle.texts.specs.Sources.{stores_of}
+use Rattle.texts.specs.Sources.{stores_of, texts_of}
 use Rattle.stacks.specs.View
 use Rattle.stacks.specs.Popped.{taken_exactly}
 use Rattle.stacks.specs.declared.Depths.{Depths}
@@ -29,7 +29,7 @@ use Rattle.objects.specs.View.{Puts, placed_then, PlacedReady}
 use Rattle.outcome.specs.Meets.{Any, registers, joins, prints}
 use Rattle.fetch.specs.Running.{Runs, Coded, Fetches}
 use Rattle.fetch.specs.declared.Running.{Running}
-use Rattle.heapops.specs.Turns.{Mem, mem, below, state_of, with_depths, turned, settled_in, Loaded, Tells, KeptOf, Turns}
+use Rattle.heapops.specs.Turns.{Mem, mem, below, state_of, with_depths, turned, settled_in, Loaded, HasCode, Tells, KeptOf, Turns}
 use Rattle.heapops.specs.Follows.{any, drops, push_kept, kept_from, after_look, after_pop, after_fetch, refuses, pushes}
 use Rattle.heapops.specs.declared.Counts.{Counts}
 use Rattle.heapops.specs.declared.How.TheVariants.{Refused}
@@ -46,8 +46,11 @@ abbrev pub with_output : ℕ → Counts → Counts
 with_output k c = record { depths = c.depths; sizes = c.sizes; code = c.code; images = c.images; text = c.text; output = k }
 
 -- the stores that hold texts, in a state over the lent ones
+pub texts_are : (code : List ℕ) (c : Counts) (m : Mem) (s : St.State) → s.code ≡ code → St.bytes (state_of c m s) ≡ texts_of code m.text c.text
+texts_are code c m s h = ap (λ (u : List ℕ). record { code = u; text = bytes_of m.text c.text }) h
+
 pub bytes_are : (n : ℕ) (code : List ℕ) (c : Counts) (m : Mem) (s : St.State) → s.code ≡ bytes_of code n → St.bytes (state_of c m s) ≡ stores_of code n m.text c.text
-bytes_are n code c m s h = ap (λ (u : List ℕ). record { code = u; text = bytes_of m.text c.text }) h
+bytes_are n code c m s h = texts_are (bytes_of code n) c m s h
 
 -- How the program goes on behind what was made, over the depths d, where no store refused it
 abbrev pub made_then : Result Counts Space → Program → Depths → Mem → St.State → Out
@@ -175,11 +178,11 @@ module _ (c : Counts) (d : Depths) (w : List ℕ) {k : Option ℕ} where
 
 -- Add of texts, and Typeof
 pub joined : {c : Counts} {code w w' t t' : List ℕ} (a b : M.Value) {k : Option ℕ} {x : Turned} → length t ≡ text_limit
-    → Keeps (to_js_string (stores_of code c.code t c.text) a ++ to_js_string (stores_of code c.code t c.text) b) c.text t k t' → PushesText c c.depths w k x w'
-    → (h o : List ℕ) → Turns (Loaded c.code code) (joins a b) c (mem w h t o) x (mem w' h t' o)
+    → Keeps (to_js_string (texts_of code t c.text) a ++ to_js_string (texts_of code t c.text) b) c.text t k t' → PushesText c c.depths w k x w'
+    → (h o : List ℕ) → Turns (HasCode code) (joins a b) c (mem w h t o) x (mem w' h t' o)
 joined {c} {code} {w} {w'} {t} {t'} a b l f p h o =
-    after_look (λ s i. ap (λ (m : St.Bytes). text_pushed (to_js_string m a ++ to_js_string m b)) (bytes_are c.code code c (mem w h t o) s i.code))
-    (any (p.turns (to_js_string (stores_of code c.code t c.text) a ++ to_js_string (stores_of code c.code t c.text) b) t t' l f h o))
+    after_look (λ s i. ap (λ (m : St.Bytes). text_pushed (to_js_string m a ++ to_js_string m b)) (texts_are code c (mem w h t o) s i.code))
+    (any (p.turns (to_js_string (texts_of code t c.text) a ++ to_js_string (texts_of code t c.text) b) t t' l f h o))
 
 pub type_pushed : {c : Counts} {d : Depths} {w w' t t' : List ℕ} {q : Option (Value × Depths)} {v : Value} {k : Option ℕ} {x : Turned} → length t ≡ text_limit → View.Pops c.depths w q → q ≡ Some (v, d)
     → Keeps (js_typeof (value_of v)) c.text t k t' → PushesText c d w k x w' → (h o : List ℕ) → Turns Any I.Typeof c (mem w h t o) x (mem w' h t' o)

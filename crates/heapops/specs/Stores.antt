@@ -15,7 +15,7 @@ use Rattle.value.specs.declared.JsVmError.TheVariants.{StackUnderflow, IpOutOfBo
 use Rattle.value.specs.declared.Value.{Value}
 use Rattle.image.specs.View.{constants_of}
 use Rattle.texts.specs.Keeps.{on_output}
-use Rattle.texts.specs.Sources.{stores_of, source_bytes}
+use Rattle.texts.specs.Sources.{stores_of, texts_of, source_bytes}
 use Rattle.texts.specs.Spells.{Spells}
 use Rattle.texts.specs.declared.Source.{Source}
 use Rattle.stacks.specs.View
@@ -27,9 +27,9 @@ use Rattle.outcome.specs.Meets.{Pairs}
 use Rattle.fetch.specs.Running.{Runs, FetchesWord, current_is, got_runs}
 use Rattle.fetch.specs.declared.Running.{Running}
 use Rattle.readops.specs.Holds.{Constants}
-use Rattle.heapops.specs.Turns.{Mem, mem, below, state_of, with_depths, turned, placed_in, Loaded, Turns}
+use Rattle.heapops.specs.Turns.{Mem, mem, below, state_of, with_depths, turned, placed_in, HasCode, Turns}
 use Rattle.heapops.specs.Follows.{after_look, after_pop, pop_fails, after_two, two_fail, after_fetch, fetch_fails, puts, left_of, left_put}
-use Rattle.heapops.specs.Makes.{bytes_are}
+use Rattle.heapops.specs.Makes.{bytes_are, texts_are}
 use Rattle.heapops.specs.declared.Counts.{Counts}
 use Rattle.heapops.specs.declared.How.TheVariants.{Ended}
 use Rattle.heapops.specs.declared.Turned.{Turned}
@@ -75,21 +75,21 @@ module _ {x : Running} {c : Counts} {code : List ℕ} (places : List ℕ) {w h t
         let key = I.get_string_constant (stores_of code c.code t c.text) i (constant_in x code places i) in
         after_name (λ k. I.pop λ v. I.pop λ o. I.set_property o k v) key o refl (two_fail (λ o v. I.set_property o key v) a b j l)
 
-    module _ {src : Source} {buffer h' t' : List ℕ} {p : Result (Sizes × ℕ) Space} {d : Depths} {y : Turned} (sp : Spells (λ b. I.get_string_constant b i (constant_in x code places i)) src buffer) where
+    module _ {src : Source} {h' t' : List ℕ} {p : Result (Sizes × ℕ) Space} {d : Depths} {y : Turned} (sp : Spells (λ b. I.get_string_constant b i (constant_in x code places i)) src) where
       pub global_stored : {u : Option (Value × Depths)} {v : Value} → View.Pops e w u → u ≡ Some (v, d)
-          → Puts (A.put_global (source_bytes (stores_of code c.code t c.text) buffer src) (A.plain (value_of v))) c.sizes h c.text t p h' t' → y ≡ placed_in c d p
+          → Puts (A.put_global (source_bytes (stores_of code c.code t c.text) src) (A.plain (value_of v))) c.sizes h c.text t p h' t' → y ≡ placed_in c d p
           → (o : List ℕ) → Turns (Constants x c.code code places) I.StoreGlobal c (mem w h t o) y (mem w h' t' o)
       global_stored {u} {v} a b j l o =
-          let key = source_bytes (stores_of code c.code t c.text) buffer src in
+          let key = source_bytes (stores_of code c.code t c.text) src in
           after_name (λ n. I.pop λ v. make (A.put_global n (A.plain v)) next) key o (sym (sp.bytes (stores_of code c.code t c.text)))
           (after_pop (λ v. make (A.put_global key (A.plain v)) next) a b
           (puts c.depths d p (λ s z. j.goes (View.on_stacks d w (on_output c.output o s)) next) (left_put c.sizes h c.text t p h' t' j.ready) l))
 
       pub property_stored : {u : Option (Value × Value × Depths)} {a v : Value} → Pairs e w u → u ≡ Some (a, v, d)
-          → Sets (value_of a) (source_bytes (stores_of code c.code t c.text) buffer src) (value_of v) c.sizes h c.text t p h' t' → y ≡ placed_in c d p
+          → Sets (value_of a) (source_bytes (stores_of code c.code t c.text) src) (value_of v) c.sizes h c.text t p h' t' → y ≡ placed_in c d p
           → (o : List ℕ) → Turns (Constants x c.code code places) I.StoreProperty c (mem w h t o) y (mem w h' t' o)
       property_stored {u} {a} {v} k b j l o =
-          let key = source_bytes (stores_of code c.code t c.text) buffer src in
+          let key = source_bytes (stores_of code c.code t c.text) src in
           after_name (λ k. I.pop λ v. I.pop λ o. I.set_property o k v) key o (sym (sp.bytes (stores_of code c.code t c.text)))
           (after_two (λ o v. I.set_property o key v) k b
           (puts c.depths d p (λ s z. j.goes (View.on_stacks d w (on_output c.output o s))) (left_of c.sizes h c.text t p h' t' j.ready) l))
@@ -100,21 +100,21 @@ keyed v o i = look λ s. I.set_property o (to_js_string (St.bytes s) i) v
 
 module _ {c : Counts} (code : List ℕ) {w h t : List ℕ} {r : Option (Value × Depths)} {y : Turned} (f : View.Pops c.depths w r) where
   pub index_empty : {d : Depths} → r ≡ None → d ≡ with_operands 0 c.depths → y ≡ turned (with_depths d c) (Ended (Err StackUnderflow))
-      → (o : List ℕ) → Turns (Loaded c.code code) I.StoreIndex c (mem w h t o) y (mem w h t o)
+      → (o : List ℕ) → Turns (HasCode code) I.StoreIndex c (mem w h t o) y (mem w h t o)
   index_empty g b e o = pop_fails (λ v. I.pop λ i. I.pop λ o. keyed v o i) f g b e
 
   module _ {v : Value} {e : Depths} (g : r ≡ Some (v, e)) {u : Option (Value × Value × Depths)} {d : Depths} (k : Pairs e w u) where
     pub index_short : u ≡ None → d ≡ with_operands 0 e → y ≡ turned (with_depths d c) (Ended (Err StackUnderflow))
-        → (o : List ℕ) → Turns (Loaded c.code code) I.StoreIndex c (mem w h t o) y (mem w h t o)
+        → (o : List ℕ) → Turns (HasCode code) I.StoreIndex c (mem w h t o) y (mem w h t o)
     index_short b j l o = after_pop (λ v. I.pop λ i. I.pop λ o. keyed v o i) f g (two_fail (keyed (value_of v)) k b j l)
 
-    pub index_stored : {a i : Value} {src : Source} {buffer h' t' : List ℕ} {p : Result (Sizes × ℕ) Space} → u ≡ Some (a, i, d) → Spells (λ b. to_js_string b (value_of i)) src buffer
-        → Sets (value_of a) (source_bytes (stores_of code c.code t c.text) buffer src) (value_of v) c.sizes h c.text t p h' t' → y ≡ placed_in c d p
-        → (o : List ℕ) → Turns (Loaded c.code code) I.StoreIndex c (mem w h t o) y (mem w h' t' o)
-    index_stored {a} {i} {src} {buffer} {h'} {t'} {p} b sp j l o =
-        let stores = stores_of code c.code t c.text in
+    pub index_stored : {a i : Value} {src : Source} {h' t' : List ℕ} {p : Result (Sizes × ℕ) Space} → u ≡ Some (a, i, d) → Spells (λ b. to_js_string b (value_of i)) src
+        → Sets (value_of a) (source_bytes (texts_of code t c.text) src) (value_of v) c.sizes h c.text t p h' t' → y ≡ placed_in c d p
+        → (o : List ℕ) → Turns (HasCode code) I.StoreIndex c (mem w h t o) y (mem w h' t' o)
+    index_stored {a} {i} {src} {h'} {t'} {p} b sp j l o =
+        let stores = texts_of code t c.text in
         after_pop (λ v. I.pop λ i. I.pop λ o. keyed v o i) f g
         (after_two (keyed (value_of v)) k b
-        (after_look (λ s z. ap (λ (m : St.Bytes). I.set_property (value_of a) (to_js_string m (value_of i)) (value_of v)) (bytes_are c.code code (with_depths d c) (mem w h t o) s z.code)
+        (after_look (λ s z. ap (λ (m : St.Bytes). I.set_property (value_of a) (to_js_string m (value_of i)) (value_of v)) (texts_are code (with_depths d c) (mem w h t o) s z.code)
         ∙ ap (λ (n : List ℕ). I.set_property (value_of a) n (value_of v)) (sym (sp.bytes stores)))
         (puts c.depths d p (λ s z. j.goes (View.on_stacks d w (on_output c.output o s))) (left_of c.sizes h c.text t p h' t' j.ready) l)))

@@ -1,5 +1,6 @@
 -- The state that the lent stores hold, and the contract of whatever changes more than the stacks. Assumes nothing.
 use Rattle.std.specs.Prelude.{ℕ, List, ◌≡◌, Result, Ok, Err}
+use Rattle.std.proofs.Common.{sym, ◌∙◌}
 use Rattle.machine.specs.State as St
 use Rattle.machine.specs.Program.{Program}
 use Rattle.machine.specs.Out.{Out, went, ended, refused, out}
@@ -59,6 +60,13 @@ placed_in c d (Err q) = turned c (Refused q)
 -- The state s has n bytes of this code loaded.
 pub record Loaded (n : ℕ) (c : List ℕ) (s : St.State) : Type 0 where
   pub code : s.code ≡ bytes_of c n
+
+-- The same of the bytes of code in use.
+pub record HasCode (c : List ℕ) (s : St.State) : Type 0 where
+  pub code : s.code ≡ c
+
+pub has_code : {n : ℕ} {c d : List ℕ} → d ≡ bytes_of c n → (s : St.State) → Loaded n c s → HasCode d s
+has_code e s h = record { code = h.code ∙ sym e }
 
 abbrev pub Tells : How → Counts → Mem → St.State → Out → Type 0
 Tells Went c m s o = o ≡ went (state_of c m s)

@@ -5,7 +5,7 @@ ghost use Rattle.value.specs.Words.{value_of};
 ghost use Rattle.stacks.specs.View.{Ready};
 ghost use Rattle.texts.specs.Keeps.{text_limit};
 ghost use Rattle.outcome.specs.Meets.{Any, joins};
-ghost use Rattle.heapops.specs.Turns.{Turns, mem, Loaded};
+ghost use Rattle.heapops.specs.Turns.{Turns, mem, HasCode};
 ghost use Rattle.heapops.specs.Makes.{PushesText};
 
 use crate::{Counts, Turned, failed, refused, settle_push};
@@ -46,11 +46,10 @@ pub fn join(
     text: &mut [u8],
 ) -> Turned
     requires ready { Ready c.depths stacks.old }
-    requires code_in_bounds { c.code ≤ length code.now }
     requires text_le_text_limit { (c.text ≤ text_limit) × (length text.old ≡ text_limit) }
-    ensures { (h o : List ℕ) → Turns (Loaded c.code code.now) (joins (value_of a) (value_of b)) c (mem stacks.old h text.old o) result (mem stacks.new h text.new o) }
+    ensures { (h o : List ℕ) → Turns (HasCode code.now) (joins (value_of a) (value_of b)) c (mem stacks.old h text.old o) result (mem stacks.new h text.new o) }
 {
-    let k = spell::keep_joined(code, c.code, text, c.text, a, b);
+    let k = spell::keep_joined(code, text, c.text, a, b);
     push_text(c, c.depths, stacks, k)
 }
 

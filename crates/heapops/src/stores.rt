@@ -6,7 +6,7 @@ ghost use Rattle.texts.specs.Keeps.{text_limit};
 ghost use Rattle.heap.specs.View.{Sized};
 ghost use Rattle.fetch.specs.Running.{Runs};
 ghost use Rattle.readops.specs.Holds.{Constants};
-ghost use Rattle.heapops.specs.Turns.{Turns, mem, Loaded, placed_in};
+ghost use Rattle.heapops.specs.Turns.{Turns, mem, HasCode, placed_in};
 
 use crate::{Counts, Turned, failed, refused, went};
 use fetch::{Running, fetch_word, past_end};
@@ -15,7 +15,7 @@ use number::format::LONGEST_TEXT;
 use outcome::pop_two;
 use readops::constants::name;
 use stacks::Depths;
-use texts::spell;
+use texts::{in_use, spell};
 use value::{JsVmError, Space};
 
 // The end of an instruction whose last act is on the heap and the text; d is what it leaves of the stacks.
@@ -57,7 +57,7 @@ pub fn store_global(
     };
     let mut buffer = [0; LONGEST_TEXT];
     let key = name(x, code, places, i, &mut buffer);
-    let r = objects::put_global(c.sizes, heap, code, c.code, text, c.text, &buffer, key, v);
+    let r = objects::put_global(c.sizes, heap, in_use(code, c.code), text, c.text, key, v);
     settle_placed(c, e, r)
 }
 
@@ -85,9 +85,8 @@ pub fn store_property(
     };
     let mut buffer = [0; LONGEST_TEXT];
     let key = name(x, code, places, i, &mut buffer);
-    let r = arrays::set_property(
-        c.sizes, heap, code, c.code, text, c.text, &buffer, target, key, v,
-    );
+    let used = in_use(code, c.code);
+    let r = arrays::set_property(c.sizes, heap, used, text, c.text, target, key, v);
     settle_placed(c, e, r)
 }
 
@@ -99,10 +98,9 @@ pub fn store_index(
     text: &mut [u8],
 ) -> Turned
     requires ready { Ready c.depths stacks.now }
-    requires code_in_bounds { c.code ≤ length code.now }
     requires sized { Sized c.sizes heap.old }
     requires text_le_text_limit { (c.text ≤ text_limit) × (length text.old ≡ text_limit) }
-    ensures { (o : List ℕ) → Turns (Loaded c.code code.now) StoreIndex c (mem stacks.now heap.old text.old o) result (mem stacks.now heap.new text.new o) }
+    ensures { (o : List ℕ) → Turns (HasCode code.now) StoreIndex c (mem stacks.now heap.old text.old o) result (mem stacks.now heap.new text.new o) }
 {
     let Some((v, d)) = c.depths.pop(stacks) else {
         return failed(c, c.depths.with_operands(0), JsVmError::StackUnderflow);
@@ -112,8 +110,6 @@ pub fn store_index(
     };
     let mut buffer = [0; LONGEST_TEXT];
     let key = spell::to_js_string(i, &mut buffer);
-    let r = arrays::set_property(
-        c.sizes, heap, code, c.code, text, c.text, &buffer, target, key, v,
-    );
+    let r = arrays::set_property(c.sizes, heap, code, text, c.text, target, key, v);
     settle_placed(c, e, r)
 }

@@ -7,7 +7,7 @@ ghost use Rattle.machine.specs.Act.{put_property, put_global, plain, as_bytes};
 ghost use Rattle.value.specs.Words.{value_of};
 ghost use Rattle.value.specs.Lists.{bytes_of};
 ghost use Rattle.texts.specs.Keeps.{text_limit};
-ghost use Rattle.texts.specs.Sources.{stores_of, source_bytes};
+ghost use Rattle.texts.specs.Sources.{texts_of, source_bytes};
 ghost use Rattle.heap.specs.Layout.{property_limit, heap_words};
 ghost use Rattle.heap.specs.View.{Sized};
 ghost use Rattle.heap.specs.Finds.{pair_at};
@@ -72,21 +72,19 @@ pub fn lay_row(
     heap: &mut [u64],
     k: usize,
     code: &[u8],
-    n: usize,
     text: &mut [u8],
     m: usize,
-    buffer: &[u8],
     head: u64,
     key: Source,
     v: Value,
 ) -> usize
     requires k_in_bounds { k + 5 < length heap.old }
-    requires n_in_bounds { (n ≤ length code.now) × (m ≤ text_limit) × (length text.old ≡ text_limit) }
-    requires key_bound { m + length (source_bytes (stores_of code.now n text.old m) buffer.now key) ≤ text_limit }
-    ensures { Lays heap.old k head (source_bytes (stores_of code.now n text.old m) buffer.now key) v m text.old result heap.new text.new }
+    requires m_le_text_limit { (m ≤ text_limit) × (length text.old ≡ text_limit) }
+    requires key_bound { m + length (source_bytes (texts_of code.now text.old m) key) ≤ text_limit }
+    ensures { Lays heap.old k head (source_bytes (texts_of code.now text.old m) key.entry) v m text.old result heap.new text.new }
 {
-    let size = Texts::new(code, n, text, m).bytes_of(buffer, key).len();
-    texts::append(code, n, text, m, buffer, key, m);
+    let size = Texts::with_code(code, text, m).bytes_of(key).len();
+    texts::append(code, text, m, key, m);
     heap::write_row(heap, k, head, m as u64, size as u64, v);
     m + size
 }
@@ -98,22 +96,20 @@ pub fn put_row(
     found: Option<usize>,
     heap: &mut [u64],
     code: &[u8],
-    n: usize,
     text: &mut [u8],
     m: usize,
-    buffer: &[u8],
     head: u64,
     key: Source,
     v: Value,
 ) -> (usize, usize)
     requires rows_in_bounds { (table.at + 6 * table.limit ≤ length heap.old) × (place_of found count < table.limit) }
-    requires n_in_bounds { (n ≤ length code.now) × (m ≤ text_limit) × (length text.old ≡ text_limit) }
-    requires key_bound { m + new_size found (length (source_bytes (stores_of code.now n text.old m) buffer.now key)) ≤ text_limit }
-    ensures { PutsRow table.at count found head (source_bytes (stores_of code.now n text.old m) buffer.now key) v heap.old m text.old result heap.new text.new }
+    requires m_le_text_limit { (m ≤ text_limit) × (length text.old ≡ text_limit) }
+    requires key_bound { m + new_size found (length (source_bytes (texts_of code.now text.old m) key)) ≤ text_limit }
+    ensures { PutsRow table.at count found head (source_bytes (texts_of code.now text.old m) key.entry) v heap.old m text.old result heap.new text.new }
 {
     let Some(i) = found else {
         let k = table.at + 6 * count;
-        let e = lay_row(heap, k, code, n, text, m, buffer, head, key, v);
+        let e = lay_row(heap, k, code, text, m, head, key, v);
         return (count + 1, e);
     };
     value::write(heap, table.at + 6 * i + 3, v);
@@ -125,19 +121,17 @@ pub fn seek_property(
     heap: &[u64],
     count: usize,
     code: &[u8],
-    n: usize,
     text: &[u8],
     m: usize,
-    buffer: &[u8],
     owner: u64,
     key: Source,
 ) -> Result<Option<usize>, Space>
     requires count_le_property_limit { (count ≤ property_limit) × (length heap.now ≡ heap_words) }
-    requires n_in_bounds { (n ≤ length code.now) × (m ≤ text_limit) × (length text.now ≡ text_limit) }
-    ensures { Seeks (pair_at (bytes_of text.now m) heap.now owner (source_bytes (stores_of code.now n text.now m) buffer.now key)) count m (length (source_bytes (stores_of code.now n text.now m) buffer.now key)) result }
+    requires m_le_text_limit { (m ≤ text_limit) × (length text.now ≡ text_limit) }
+    ensures { Seeks (pair_at (bytes_of text.now m) heap.now owner (source_bytes (texts_of code.now text.now m) key.entry)) count m (length (source_bytes (texts_of code.now text.now m) key.entry)) result }
 {
-    let texts = Texts::new(code, n, text, m);
-    let bytes = texts.bytes_of(buffer, key);
+    let texts = Texts::with_code(code, text, m);
+    let bytes = texts.bytes_of(key);
     let found = heap::find_property(texts.text(), heap, count, owner, bytes);
     room(PROPERTIES, count, found, m, bytes_asked(found, bytes))?;
     Ok(found)
@@ -148,23 +142,19 @@ pub fn put_property(
     z: Sizes,
     heap: &mut [u64],
     code: &[u8],
-    n: usize,
     text: &mut [u8],
     m: usize,
-    buffer: &[u8],
     owner: u64,
     key: Source,
     v: Value,
 ) -> Result<(Sizes, usize), Space>
     requires sized { Sized z heap.old }
-    requires n_in_bounds { (n ≤ length code.now) × (m ≤ text_limit) × (length text.old ≡ text_limit) }
-    ensures { Puts (put_property owner (source_bytes (stores_of code.now n text.old m) buffer.now key) (value_of v)) z heap.old m text.old result heap.new text.new }
+    requires m_le_text_limit { (m ≤ text_limit) × (length text.old ≡ text_limit) }
+    ensures { Puts (put_property owner (source_bytes (texts_of code.now text.old m) key.entry) (value_of v)) z heap.old m text.old result heap.new text.new }
 {
     let count = z.properties;
-    let found = seek_property(heap, count, code, n, text, m, buffer, owner, key)?;
-    let (properties, e) = put_row(
-        PROPERTIES, count, found, heap, code, n, text, m, buffer, owner, key, v,
-    );
+    let found = seek_property(heap, count, code, text, m, owner, key)?;
+    let (properties, e) = put_row(PROPERTIES, count, found, heap, code, text, m, owner, key, v);
     Ok((Sizes { properties, ..z }, e))
 }
 
@@ -173,25 +163,21 @@ pub fn put_global(
     z: Sizes,
     heap: &mut [u64],
     code: &[u8],
-    n: usize,
     text: &mut [u8],
     m: usize,
-    buffer: &[u8],
     name: Source,
     v: Value,
 ) -> Result<(Sizes, usize), Space>
     requires sized { Sized z heap.old }
-    requires n_in_bounds { (n ≤ length code.now) × (m ≤ text_limit) × (length text.old ≡ text_limit) }
-    ensures { Puts (put_global (source_bytes (stores_of code.now n text.old m) buffer.now name) (plain (value_of v))) z heap.old m text.old result heap.new text.new }
+    requires m_le_text_limit { (m ≤ text_limit) × (length text.old ≡ text_limit) }
+    ensures { Puts (put_global (source_bytes (texts_of code.now text.old m) name.entry) (plain (value_of v))) z heap.old m text.old result heap.new text.new }
 {
     let count = z.globals;
-    let texts = Texts::new(code, n, text, m);
-    let bytes = texts.bytes_of(buffer, name);
+    let texts = Texts::with_code(code, text, m);
+    let bytes = texts.bytes_of(name);
     let found = heap::find_global(texts.text(), heap, count, bytes);
     room(GLOBALS, count, found, m, bytes_asked(found, bytes))?;
-    let (globals, e) = put_row(
-        GLOBALS, count, found, heap, code, n, text, m, buffer, 0, name, v,
-    );
+    let (globals, e) = put_row(GLOBALS, count, found, heap, code, text, m, 0, name, v);
     Ok((Sizes { globals, ..z }, e))
 }
 
@@ -200,28 +186,24 @@ pub fn put_global_text(
     z: Sizes,
     heap: &mut [u64],
     code: &[u8],
-    n: usize,
     text: &mut [u8],
     m: usize,
-    buffer: &[u8],
     name: Source,
     given: &[u8],
 ) -> Result<(Sizes, usize), Space>
     requires sized { Sized z heap.old }
-    requires n_in_bounds { (n ≤ length code.now) × (m ≤ text_limit) × (length text.old ≡ text_limit) }
-    ensures { Puts (put_global (source_bytes (stores_of code.now n text.old m) buffer.now name) (as_bytes given.now)) z heap.old m text.old result heap.new text.new }
+    requires m_le_text_limit { (m ≤ text_limit) × (length text.old ≡ text_limit) }
+    ensures { Puts (put_global (source_bytes (texts_of code.now text.old m) name.entry) (as_bytes given.now)) z heap.old m text.old result heap.new text.new }
 {
     let count = z.globals;
     let long = given.len();
-    let texts = Texts::new(code, n, text, m);
-    let bytes = texts.bytes_of(buffer, name);
+    let texts = Texts::with_code(code, text, m);
+    let bytes = texts.bytes_of(name);
     let found = heap::find_global(texts.text(), heap, count, bytes);
     let size = bytes_asked(found, bytes);
     room(GLOBALS, count, found, m, size + long)?;
     let made = Value::MadeText((m + size) as u64, long as u64);
-    let (globals, e) = put_row(
-        GLOBALS, count, found, heap, code, n, text, m, buffer, 0, name, made,
-    );
+    let (globals, e) = put_row(GLOBALS, count, found, heap, code, text, m, 0, name, made);
     texts::copy(text, e, given);
     Ok((Sizes { globals, ..z }, e + long))
 }

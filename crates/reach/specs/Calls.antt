@@ -1,6 +1,6 @@
 -- Call of a function that is known. Assumes nothing.
 use Rattle.std.specs.Prelude.{◌≡◌, ℕ, ◌+◌, ◌-◌, ◌*◌, ◌<◌, ◌≤◌, List, [], slice_index_or, refl, Option, Some}
-use Rattle.std.proofs.Common.{sym, ap, subst, ◌∙◌}
+use Rattle.std.proofs.Common.{sym, ap, ◌∙◌}
 use Rattle.std.proofs.Math.ListN.{get_elem?}
 use Rattle.machine.specs.Image as Im
 use Rattle.machine.specs.State as St

@@ -1,6 +1,7 @@
 -- Elements of arrays, and properties of objects by a number. Assumes nothing.
-use Rattle.std.specs.Prelude.{◌≡◌, ℕ, zero, suc, ◌+◌, ◌-◌, ◌*◌, ◌/◌, ◌%◌, ◌^◌, ◌<◌, ◌≤◌, Bool, true, false, ◌&&◌, List, [], ◌∷◌, ◌++◌, length, take, drop, ◌==◌, nat_lt, slice_index, refl, Option, Some, None, Result, Ok}
-use Rattle.std.proofs.Common.{arith, sym, ap, subst, ◌∙◌, length-append, drop_of_length-le, take_at, drop-cons, le-leb, lt-ltb, ltb-true, ltb-false, eq-eqb, eqb-true}
+use Rattle.std.specs.Prelude.{◌≡◌, ℕ, zero, suc, ◌+◌, ◌-◌, ◌*◌, ◌/◌, ◌%◌, ◌^◌, ◌<◌, ◌≤◌, Bool, true, false, ◌&&◌, List, [], ◌∷◌, length, take, drop, ◌==◌, nat_lt, slice_index, refl, Option, Some, None, Result, Ok}
+use Rattle.std.proofs.Common.{arith, sym, ap, subst, ◌∙◌, drop_of_length-le, take_at, drop-cons, le-leb, lt-ltb, ltb-true, ltb-false, eq-eqb, eqb-true}
+use denote.Ref.{Bor}
 use Rattle.std.proofs.Math.Option.{none, some}
 use Rattle.std.proofs.Math.ListN.{get_elem?}
 use Rattle.machine.specs.Basic.{same}
@@ -13,14 +14,14 @@ use Rattle.machine.specs.Convert.{to_js_string, length_key, worth, digits_key, a
 use Rattle.machine.specs.NumberText.{longest_text}
 use Rattle.machine.proofs.NumberText.{decimal_last, decimal_more, text_length, whole_text}
 use Rattle.number.specs.Format.{Formats}
-use Rattle.value.specs.Lists.{bytes_of, row_of, row_length}
+use Rattle.value.specs.Lists.{bytes_of}
 use Rattle.value.specs.Words.{value_of, value_at, decode_of, Holds}
 use Rattle.value.specs.declared.Value.{Value}
 use Rattle.value.specs.declared.Value.TheVariants.{Number, Object}
 use Rattle.texts.specs.Keeps.{text_limit}
 use Rattle.texts.specs.Sources.{stores_of, source_bytes}
 use Rattle.texts.specs.Spells.{Spells}
-use Rattle.texts.specs.declared.Source.TheVariants.{Buffer}
+use Rattle.texts.specs.declared.Source.TheVariants.{Bytes}
 use Rattle.stacks.specs.Laws.{with_operands, pop_took, pop_ready, push_holds}
 use Rattle.stacks.specs.View
 use Rattle.stacks.specs.declared.Depths.{Depths}
@@ -37,7 +38,8 @@ use Rattle.outcome.specs.Meets.{Meets, Any, Pairs, settles, pair_both}
 use Rattle.readops.specs.Holds.{Objects}
 use Rattle.readops.specs.Lookups.{loads_index}
 use Rattle.heapops.specs.declared.Counts.{Counts}
-use Rattle.heapops.specs.Turns.{mem, Loaded}
+use Rattle.heapops.specs.Turns.{mem, Loaded, has_code}
+use Rattle.heapops.specs.Follows.{weaken}
 use Rattle.heapops.specs.Stores.{index_stored}
 use Rattle.quick.specs.Quickly.{Quickly, carry, goes, went_as, newest}
 use Rattle.quick.specs.Stays.{Stays, stays_went, kept_within, kept_operands, below_frames}
@@ -80,16 +82,12 @@ element_searched {t} {h} {n} {o} {v} {x} {k} {r} {b} {b'} e f l =
 pub element_guessed : {t h : List ℕ} {n o v : ℕ} (i : ℕ) → v < 2 ^ 64 → i < n → RowIs t h (properties_at + 6 * i) o (N.format_js_number v) → FindsElement t h n o v (Some i)
 element_guessed {v = v} i l k f = record { row = guessed k (row_pair i f); short = text_length v l }
 
-abbrev filled : List ℕ → List ℕ
-filled t = t ++ row_of (longest_text - length t) (λ i. 0)
+-- a text given by its bytes
+abbrev given : List ℕ → Bor (List ℕ)
+given t = record { ref_ptr = (0, 0); now = t }
 
-spelled : (v : ℕ) → length (N.format_js_number v) ≤ longest_text → Spells (λ b. to_js_string b (M.number v)) (Buffer (length (N.format_js_number v))) (filled (N.format_js_number v))
-spelled v l =
-    let t = N.format_js_number v in
-    record {
-      bytes = λ m. take_at t (row_of (longest_text - length t) (λ i. 0)) (length t) refl;
-      size = length-append t (row_of (longest_text - length t) (λ i. 0)) ∙ omega (arith, row_length {A = ℕ} (longest_text - length t) (λ i. 0));
-    }
+spelled : (v : ℕ) → Spells (λ b. to_js_string b (M.number v)) (Bytes (given (N.format_js_number v)))
+spelled v = record { bytes = λ m. refl }
 
 -- both are popped
 access_pair : {e : Depths} {w : List ℕ} {k id v : ℕ} → View.Ready e w → 2 ≤ e.operands → k ≡ 3 * (e.operands - 2) → Accesses w k (Some (id, v))
@@ -131,7 +129,7 @@ module _ (z : Sizes) (m : ℕ) (text : List ℕ) {heap : List ℕ} {d : Depths} 
   loads n code long =
       let key = N.format_js_number v in
       surely put
-      (λ D. carry (λ y p. loads_index (access_pair good two place acc) (as_value found) refl (spelled v row_loaded.short) (sym ((spelled v row_loaded.short).bytes (stores_of code n text m)))
+      (λ D. carry (λ y p. loads_index (access_pair good two place acc) (as_value found) refl (spelled v) (sym ((spelled v).bytes (stores_of code n text m)))
       (object_known (stores_of code n text m) heap z.objects z.properties id key (value_of (as_value found)) known
       (property_at (stores_of code n text m) heap id key z.properties (Some j) (row_loaded.row.finds (D.pairs id key)) j (as_value found) refl (as_value_lem found)))
       (subst (λ (u : M.Value). Meets Any (I.pushed u) below w y w') (sym (as_value_lem found)) p)) put)
@@ -328,12 +326,12 @@ module _ (c : Counts) (t : List ℕ) {w h h' : List ℕ} {k id v j p : ℕ} {kin
       subst (λ (i : ℕ). Holds h h' (properties_at + 6 * j + 3) (value_at w i)) z held
 
   stored : Distinct c.sizes h c.text t → (code : List ℕ)
-      → Sets (M.object id) (source_bytes (stores_of code c.code t c.text) (filled (N.format_js_number v)) (Buffer (length (N.format_js_number v)))) (value_of (as_value top)) c.sizes h c.text t
+      → Sets (M.object id) (source_bytes (stores_of code c.code t c.text) (Bytes (given (N.format_js_number v)))) (value_of (as_value top)) c.sizes h c.text t
       (Ok (c.sizes, c.text)) h' t
   stored D code =
       let key = N.format_js_number v in
       subst (λ (b : List ℕ). Sets (M.object id) b (value_of (as_value top)) c.sizes h c.text t (Ok (c.sizes, c.text)) h' t)
-      (sym ((spelled v row_stored.short).bytes (stores_of code c.code t c.text)))
+      (sym ((spelled v).bytes (stores_of code c.code t c.text)))
       (alone_sets kind p c.sizes h c.text t id v (value_of (as_value top)) (Ok (c.sizes, c.text)) h' t alone.told q D sized
       (property_held c.sizes h c.text t sized fits.0 fits.1 key (Some j) top j h' refl same id (row_stored.row.finds (D.pairs id key)) held_top))
 
@@ -343,7 +341,7 @@ module _ (c : Counts) (t : List ℕ) {w h h' : List ℕ} {k id v j p : ℕ} {kin
       subst (λ (y : Depths). Reaches (Loaded c.code code) I.StoreIndex c (mem w h t o) (Some y) (mem w h' t o)) (sym end)
       (record {
         told = (
-          index_stored code (pop_took d w good (as_value top) (λ z. omega arith) (as_value_lem top)) refl pair refl (spelled v row_stored.short) (stored D code) refl o,
+          weaken (has_code refl) (index_stored (bytes_of code c.code) (pop_took d w good (as_value top) (λ z. omega arith) (as_value_lem top)) refl pair refl (spelled v) (stored D code) refl o),
           lower_ready (omega arith) good,
         );
       })

@@ -100,7 +100,7 @@ module _ (c : Counts) (code : List ℕ) {w t t' : List ℕ} (good : View.Ready c
       let turns = joined {c = with_depths low c} (value_of a) (value_of b) long keeps p h o in
       let q : d.operands - 2 + 1 ≡ d.operands - 1 = omega (arith, two) in
       subst (λ (u : Depths). Leaps (Loaded c.code code) I.Add c (mem w h t o) (Some (u, n)) (mem w' h t' o)) (ap (λ (i : ℕ). with_operands i d) q ∙ sym y)
-      (record { told = (record { goes = λ s i. begun (below c (mem w h t o) s) ∙ turns.goes s i; kept = tt }, push.ready, (appended keeps f).1) })
+      (record { told = (record { goes = λ s i. begun (below c (mem w h t o) s) ∙ turns.goes s (record { code = i.code }); kept = tt }, push.ready, (appended keeps f).1) })
 
   pub join_left : k ≡ None → (h o : List ℕ) → Leaps (Loaded c.code code) I.Add c (mem w h t o) None (mem w h t' o)
   join_left f h o = record { told = ap (λ (u : List ℕ). mem w h u o) (full keeps f).1 }

@@ -6,12 +6,11 @@ use Rattle.std.proofs.Math.ListN.{get_elem?}
 use Rattle.machine.specs.Value as M
 use Rattle.machine.specs.Image as Im
 use Rattle.machine.specs.Instruction as I
-use Rattle.machine.specs.NumberText.{longest_text}
 use Rattle.reader.specs.Constants.{constant_of}
 use Rattle.reader.specs.declared.Constant.{Constant}
 use Rattle.reader.specs.declared.Constant.TheVariants.{Str}
 use Rattle.image.specs.Load.{found_of}
-use Rattle.value.specs.Lists.{bytes_of, row_of, row_length}
+use Rattle.value.specs.Lists.{bytes_of}
 use Rattle.value.specs.Words.{value_of, value_at, Holds}
 use Rattle.value.specs.declared.Value.{Value}
 use Rattle.value.specs.declared.Value.TheVariants.{Object}
@@ -26,7 +25,7 @@ use Rattle.stacks.specs.declared.Depths.{Depths}
 use Rattle.heap.specs.Layout.{properties_at, globals_at}
 use Rattle.heap.specs.View.{held_in, Sized, objects_of, kind_in}
 use Rattle.heap.specs.Rows.{Finds}
-use Rattle.heap.specs.Finds.{stores, text_is, pair_is, named_kept, name_at, pair_at, global_at, property_at, object_known}
+use Rattle.heap.specs.Finds.{text_is, pair_is, named_kept, name_at, pair_at, global_at, property_at, object_known}
 use Rattle.heap.specs.declared.Sizes.{Sizes}
 use Rattle.heap.specs.declared.ObjectType.{ObjectType}
 use Rattle.heap.specs.declared.ObjectType.TheVariants.{Ordinary}
@@ -80,14 +79,10 @@ name_as text m code n at size h {t} {b} {key} {k} {r} u v w f =
 pub name_is : {c : Option Constant} {o : Maybe Im.Constant} {k : Constant} {at size : ℕ} → found_of c ≡ o → c ≡ Some k → k ≡ Str at size → Names o (Some (at, size))
 name_is a z t = record { told = sym a ∙ ap found_of (z ∙ ap (λ (u : Constant). Some u) t) }
 
--- a text of the code needs no buffer
-abbrev blank : List ℕ
-blank = row_of longest_text (λ i. 0)
-
-spelled : {o : Maybe Im.Constant} {at size : ℕ} (i : ℕ) → Names o (Some (at, size)) → Spells (λ b. I.get_string_constant b i o) (Code at size) blank
+spelled : {o : Maybe Im.Constant} {at size : ℕ} (i : ℕ) → Names o (Some (at, size)) → Spells (λ b. I.get_string_constant b i o) (Code at size)
 spelled {o} {at} {size} i a =
     let e : o ≡ some (constant_of (Str at size)) = a.told in
-    spells_as (λ m. ap (I.get_string_constant m i) (sym e)) (spells_code i at size blank (row_length longest_text (λ i. 0)))
+    spells_as (λ m. ap (I.get_string_constant m i) (sym e)) (spells_code i at size)
 
 -- any value is popped
 took : {e : Depths} {w : List ℕ} → View.Ready e w → (e.operands ≢ 0) → View.Pops e w (Some ((as_value (newest e w)), (with_operands (e.operands - 1) e)))

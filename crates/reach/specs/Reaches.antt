@@ -1,6 +1,6 @@
 -- What a quick instruction ensures that reads or writes more than the stacks. Assumes nothing.
 use Rattle.std.specs.Prelude.{◌≡◌, ℕ, ◌+◌, ◌<◌, List, length, slice_index, refl, Option, Some, None}
-use Rattle.std.proofs.Common.{ap, subst, ◌∙◌, sym}
+use Rattle.std.proofs.Common.{ap, subst, ◌∙◌}
 use Rattle.machine.specs.State as St
 use Rattle.machine.specs.Program.{Program}
 use Rattle.machine.specs.Instruction as I

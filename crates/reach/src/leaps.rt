@@ -21,7 +21,7 @@ use opcode::Opcode;
 use quick::{byte_at, control, opcode_at, settle};
 use readops::constants::is_text;
 use stacks::Depths;
-use texts::spell;
+use texts::{in_use, spell};
 use value::Value;
 
 fn has_text(a: Value, b: Value) -> bool
@@ -47,7 +47,7 @@ pub fn join(c: Counts, code: &[u8], stacks: &mut [u64], text: &mut [u8]) -> Opti
     let b = value::read(stacks, k + 3);
     if has_text(a, b) {
         let m = c.text;
-        let e = spell::keep_joined(code, c.code, text, m, a, b)?;
+        let e = spell::keep_joined(in_use(code, c.code), text, m, a, b)?;
         value::write(
             stacks,
             k,

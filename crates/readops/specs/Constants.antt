@@ -16,7 +16,6 @@ use Rattle.machine.specs.Instruction as I
 use Rattle.value.specs.Words.{value_of}
 use Rattle.value.specs.declared.Value.{Value}
 use Rattle.value.specs.declared.Value.TheVariants.{Number}
-use Rattle.machine.specs.NumberText.{longest_text}
 use Rattle.reader.specs.Constants.{constant_of}
 use Rattle.reader.specs.declared.Constant.{Constant}
 use Rattle.reader.specs.declared.Constant.TheVariants.{Str, Function}
@@ -80,18 +79,18 @@ module _ (L : Maybe Im.Constant → Program) {x : Running} {n : ℕ} {code place
         (left_register (got_ready f g a) p)))
 
 -- a name
-module _ {c : Option Constant} {o : Maybe Im.Constant} (i : ℕ) {r : Source} {b : List ℕ} (a : found_of c ≡ o) where
-  named : (u : Option Constant) → c ≡ u → Spells (λ m. I.get_string_constant m i (found_of u)) r b → Spells (λ m. I.get_string_constant m i o) r b
+module _ {c : Option Constant} {o : Maybe Im.Constant} (i : ℕ) {r : Source} (a : found_of c ≡ o) where
+  named : (u : Option Constant) → c ≡ u → Spells (λ m. I.get_string_constant m i (found_of u)) r → Spells (λ m. I.get_string_constant m i o) r
   named u z h = spells_as (λ m. ap (I.get_string_constant m i) (ap found_of (sym z) ∙ a)) h
 
-  pub name_none : c ≡ None → Spells (λ m. N.decimal i) r b → Spells (λ m. I.get_string_constant m i o) r b
+  pub name_none : c ≡ None → Spells (λ m. N.decimal i) r → Spells (λ m. I.get_string_constant m i o) r
   name_none z h = named None z h
 
-  pub name_some : {k l : Constant} → c ≡ Some k → k ≡ l → Spells (λ m. I.get_string_constant m i (some (constant_of l))) r b → Spells (λ m. I.get_string_constant m i o) r b
+  pub name_some : {k l : Constant} → c ≡ Some k → k ≡ l → Spells (λ m. I.get_string_constant m i (some (constant_of l))) r → Spells (λ m. I.get_string_constant m i o) r
   name_some {k} {l} z t h = named (Some l) (z ∙ ap (λ (u : Constant). Some u) t) h
 
-pub spells_code : (i at size : ℕ) (b : List ℕ) → length b ≡ longest_text → Spells (λ m. I.get_string_constant m i (some (constant_of (Str at size)))) (Code at size) b
-spells_code i at size b l = record { bytes = λ m. refl; size = l }
+pub spells_code : (i at size : ℕ) → Spells (λ m. I.get_string_constant m i (some (constant_of (Str at size)))) (Code at size)
+spells_code i at size = record { bytes = λ m. refl }
 
 -- Add of two values that are no texts
 abbrev pub add_of : St.Bytes → M.Value → M.Value → Program

@@ -54,8 +54,8 @@ module _ {x : Running} {n : ℕ} {code places : List ℕ} {m : St.Bytes} {held :
     after_named : {w' : List ℕ} {y : Stepped} (k : List ℕ → Program) → Meets (Named x n code places m held) (k (I.get_string_constant m i (constant_in x code places i))) e w y w' → Meets (Named x n code places m held) (I.fetch_name k) d w y w'
     after_named k p = after_fetch f (by k) (λ s h. h.constants.coded) q g (after_look (λ s h. ap k (name_is s h)) p)
 
-    module _ {src : Source} {buffer bytes : List ℕ} (sp : Spells (λ b. I.get_string_constant b i (constant_in x code places i)) src buffer)
-        (b : bytes ≡ source_bytes m buffer src) where
+    module _ {src : Source} {bytes : List ℕ} (sp : Spells (λ b. I.get_string_constant b i (constant_in x code places i)) src)
+        (b : bytes ≡ source_bytes m src) where
       pub loads_global : (v : Value) {w' : List ℕ} {y : Stepped} → value_of v ≡ global_in m held.globals bytes
           → Meets Any (I.pushed (value_of v)) e w y w' → Meets (Named x n code places m held) I.LoadGlobal d w y w'
       loads_global v a p = after_named (λ k. look λ s. I.pushed (St.global s k))
@@ -88,10 +88,10 @@ module _ {m : St.Bytes} {held : Held} {d : Depths} {w : List ℕ} {r : Option (V
   pub index_short : r ≡ None → y ≡ underflow_of d → Meets (Objects m held) I.LoadIndex d w y w
   index_short g e = onward (λ s h. index_two (View.on_stacks d w s)) refl (two_fail indexed p g e)
 
-  pub loads_index : (v : Value) {o i : Value} {e : Depths} {w' : List ℕ} {src : Source} {buffer bytes : List ℕ} → r ≡ Some (o, i, e) → Spells (λ b. to_js_string b (value_of i)) src buffer
-      → bytes ≡ source_bytes m buffer src → value_of v ≡ I.get_property m held.objects held.properties (value_of o) bytes
+  pub loads_index : (v : Value) {o i : Value} {e : Depths} {w' : List ℕ} {src : Source} {bytes : List ℕ} → r ≡ Some (o, i, e) → Spells (λ b. to_js_string b (value_of i)) src
+      → bytes ≡ source_bytes m src → value_of v ≡ I.get_property m held.objects held.properties (value_of o) bytes
       → Meets Any (I.pushed (value_of v)) e w y w' → Meets (Objects m held) I.LoadIndex d w y w'
-  loads_index v {o} {i} {e} {w'} {src} {buffer} {bytes} g sp b a k =
+  loads_index v {o} {i} {e} {w'} {src} {bytes} g sp b a k =
       onward (λ s h. index_two (View.on_stacks d w s)) refl
       (after_two indexed p {q = indexed m (value_of o) (value_of i)} g (λ s h. refl)
       (after_look {f = λ s. I.pushed (I.get_property (St.bytes s) s.objects s.properties (value_of o) (to_js_string (St.bytes s) (value_of i)))}

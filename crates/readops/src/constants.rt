@@ -70,15 +70,15 @@ pub fn create_closure(
 }
 
 // `get_string_constant`: a text constant, else the operand in decimal.
-pub fn name(
+pub fn name<'b>(
     x: Running,
     code: &[u8],
     places: &[u16],
     i: usize,
-    buffer: &mut [u8; LONGEST_TEXT],
-) -> Source
+    buffer: &'b mut [u8; LONGEST_TEXT],
+) -> Source<'b>
     requires { (i < 65536) × (length buffer.old ≡ longest_text) }
-    ensures { Spells (λ m. get_string_constant m i (get_elem? (constants_of code.now places.now x.shape.constants x.shape.constant_count) i)) result buffer.new }
+    ensures { Spells (λ m. get_string_constant m i (get_elem? (constants_of code.now places.now x.shape.constants x.shape.constant_count) i)) result }
 {
     let Some(Constant::Str(at, size)) = image::constant_at(code, places, x.shape, i) else {
         return arrays::element_key(i, buffer);

@@ -34,7 +34,7 @@ pub fn load_global(
     };
     let mut buffer = [0; LONGEST_TEXT];
     let key = name(x, code, places, i, &mut buffer);
-    let v = heap.global(texts, texts.bytes_of(&buffer, key));
+    let v = heap.global(texts, texts.bytes_of(key));
     push_value(e, stacks, v)
 }
 
@@ -61,7 +61,7 @@ pub fn load_property(
     };
     let mut buffer = [0; LONGEST_TEXT];
     let key = name(x, code, places, i, &mut buffer);
-    let v = heap.get_property(texts, o, texts.bytes_of(&buffer, key));
+    let v = heap.get_property(texts, o, texts.bytes_of(key));
     push_value(f, stacks, v)
 }
 
@@ -74,6 +74,6 @@ pub fn load_index(d: Depths, texts: &Texts, heap: &Heap, stacks: &mut [u64]) -> 
     };
     let mut buffer = [0; LONGEST_TEXT];
     let key = texts::spell::to_js_string(i, &mut buffer);
-    let v = heap.get_property(texts, o, texts.bytes_of(&buffer, key));
+    let v = heap.get_property(texts, o, texts.bytes_of(key));
     push_value(e, stacks, v)
 }

@@ -17,7 +17,7 @@ fn property(z: Sizes, heap: &[u64], text: &[u8], m: usize, key: &[u8]) -> Value
     requires sized { Sized z heap.now }
     requires m_in_bounds { m ≤ length text.now }
 {
-    Heap::new(z, heap).property(&Texts::new(b"", 0, text, m), 0, key)
+    Heap::new(z, heap).property(&Texts::with_code(b"", text, m), 0, key)
 }
 
 // The length of an empty array after a store under a key.
@@ -26,20 +26,18 @@ fn length_after(heap: &mut [u64], text: &mut [u8], stacks: &[u64], key: &[u8]) -
 {
     let z = heap::clear(heap);
     let (y, m) = arrays::add_array(z, heap, text, 0, stacks, 0, 0, 0).ok()?;
-    let size = Source::Buffer(key.len() as u64);
     let array = Value::Object(0);
     let (x, e) = arrays::set_property(
         y,
         heap,
         b"",
-        0,
         text,
         m,
-        key,
         array,
-        size,
+        Source::Bytes(key),
         Value::Null,
-    ).ok()?;
+    )
+    .ok()?;
     Some(property(x, heap, text, e, b"length"))
 }
 

@@ -10,7 +10,7 @@ use Rattle.machine.specs.Program.{Program, make}
 use Rattle.machine.specs.Out.{Out, refused, out, out_make, out_refused, Asked}
 use Rattle.value.specs.Lists.{bytes_of, row_length}
 use Rattle.texts.specs.Overwrite.{overwrite, overwrite_bytes, overwrite_length, overwrite_under, overwrite_more}
-use Rattle.texts.specs.Sources.{stores_of}
+use Rattle.texts.specs.Sources.{texts_of}
 
 abbrev pub text_limit : ℕ
 text_limit = St.limit St.text_store
@@ -103,12 +103,12 @@ module _ (bs : List ℕ) (n : ℕ) (t : List ℕ) (r : Option ℕ) (t' : List �
       appends_act (A.print bs) St.output_store (A.line bs) (λ y. S.set_output y s) (λ y. refl) (λ y. ap (λ (k : ℕ). A.need St.output_store k ∷ []) two) (λ y. refl) (λ y. refl) n t t' l p r x
 
 -- Two texts kept as one. The second is read from stores that have the first.
-module _ (c t : List ℕ) (n m : ℕ) (f g : St.Bytes → List ℕ) (h : m ≤ text_limit) (l : length t ≡ text_limit) where
+module _ (c t : List ℕ) (m : ℕ) (f g : St.Bytes → List ℕ) (h : m ≤ text_limit) (l : length t ≡ text_limit) where
   abbrev one : List ℕ
-  one = f (stores_of c n t m)
+  one = f (texts_of c t m)
 
   abbrev two : List ℕ
-  two = g (stores_of c n t m)
+  two = g (texts_of c t m)
 
   module _ (x y : ℕ) (ex : x ≡ length one) (ey : y ≡ length two) where
     both : x + y ≡ length (one ++ two)
@@ -118,16 +118,16 @@ module _ (c t : List ℕ) (n m : ℕ) (f g : St.Bytes → List ℕ) (h : m ≤ t
     join_full q = appends_full text_limit m t (one ++ two) (x + y) both h q
 
     module _ (t' : List ℕ) (e' : t' ≡ overwrite t m one) (fits : x + y ≤ text_limit - m) where
-      same_second : g (stores_of c n t' m) ≡ two
-      same_second = ap (λ (z : List ℕ). g (record { code = bytes_of c n; text = z })) (ap (λ (z : List ℕ). bytes_of z m) e' ∙ overwrite_under t m one (omega arith) m (omega arith))
+      same_second : g (texts_of c t' m) ≡ two
+      same_second = ap (λ (z : List ℕ). g (record { code = c; text = z })) (ap (λ (z : List ℕ). bytes_of z m) e' ∙ overwrite_under t m one (omega arith) m (omega arith))
 
-      pub join_room : m + x + length (g (stores_of c n t' m)) ≤ length t'
+      pub join_room : m + x + length (g (texts_of c t' m)) ≤ length t'
       join_room =
           let k = ap length e' ∙ overwrite_length t m one (omega arith) in
           let z = ap length same_second in
           omega arith
 
-      pub join_went : (t'' : List ℕ) → t'' ≡ overwrite t' (m + x) (g (stores_of c n t' m)) → Keeps (one ++ two) m t (Some (m + x + y)) t''
+      pub join_went : (t'' : List ℕ) → t'' ≡ overwrite t' (m + x) (g (texts_of c t' m)) → Keeps (one ++ two) m t (Some (m + x + y)) t''
       join_went t'' q =
           let z : m + x ≡ m + length one = omega arith in
           let w : t'' ≡ overwrite t m (one ++ two) =

@@ -1,11 +1,11 @@
 //! The text of a value: a text has its place, a number is laid out, and any other is a word. So each is measured with nothing written, and written straight to
-//! where it is wanted. A key that is only looked up goes into a small buffer that the caller has.
+//! where it is wanted. A number that is looked up as a key goes into a small buffer that the caller has.
 ghost use Rattle.std.specs.Prelude.{◌≡◌, ◌++◌, ◌+◌, ◌≤◌, length};
 ghost use Rattle.machine.specs.Convert.{to_js_string, js_typeof};
 ghost use Rattle.machine.specs.NumberText.{longest_text};
 ghost use Rattle.number.specs.Layout.{Wrote};
 ghost use Rattle.value.specs.Words.{value_of};
-ghost use Rattle.texts.specs.Sources.{InUse, stores_of};
+ghost use Rattle.texts.specs.Sources.{texts_of};
 ghost use Rattle.texts.specs.Overwrite.{overwrite};
 ghost use Rattle.texts.specs.Spells.{laid_out, spelling_bytes, Says, Spells};
 ghost use Rattle.texts.specs.Keeps.{text_limit, Keeps};
@@ -77,15 +77,15 @@ impl Spelling {
     }
 
     // The same at place e of the text store, whose own bytes below m it may be.
-    pub(crate) fn append(self, code: &[u8], n: usize, text: &mut [u8], m: usize, e: usize)
-        requires in_use { InUse code.now n text.old m }
+    pub(crate) fn append(self, code: &[u8], text: &mut [u8], m: usize, e: usize)
+        requires m_in_bounds { m ≤ length text.old }
         requires m_le_e { m ≤ e }
-        requires s_in_bounds { e + length (spelling_bytes (stores_of code.now n text.old m) self) ≤ length text.old }
-        ensures { text.new ≡ overwrite text.old e (spelling_bytes (stores_of code.now n text.old m) self) }
+        requires s_in_bounds { e + length (spelling_bytes (texts_of code.now text.old m) self) ≤ length text.old }
+        ensures { text.new ≡ overwrite text.old e (spelling_bytes (texts_of code.now text.old m) self) }
     {
         match self {
-            Spelling::Code(at, size) => append(code, n, text, m, &[], Source::Code(at, size), e),
-            Spelling::Text(at, size) => append(code, n, text, m, &[], Source::Text(at, size), e),
+            Spelling::Code(at, size) => append(code, text, m, Source::Code(at, size), e),
+            Spelling::Text(at, size) => append(code, text, m, Source::Text(at, size), e),
             Spelling::Number(l) => {
                 l.write(text, e);
             }
@@ -108,32 +108,27 @@ pub fn type_of(v: Value) -> &'static [u8]
 }
 
 // The buffer's length is asked, since nothing else tells it of an array behind a `&mut`.
-pub fn to_js_string(v: Value, buffer: &mut [u8; LONGEST_TEXT]) -> Source
+pub fn to_js_string(v: Value, buffer: &mut [u8; LONGEST_TEXT]) -> Source<'_>
     requires { length buffer.old ≡ longest_text }
-    ensures { Spells (λ m. to_js_string m (value_of v)) result buffer.new }
+    ensures { Spells (λ m. to_js_string m (value_of v)) result }
 {
     match Spelling::of(v) {
         Spelling::Code(at, size) => Source::Code(at, size),
         Spelling::Text(at, size) => Source::Text(at, size),
-        Spelling::Number(l) => Source::Buffer(l.write(buffer, 0) as u64),
-        Spelling::Word(w) => Source::Buffer(put(buffer, 0, w) as u64),
+        Spelling::Number(l) => {
+            let size = l.write(buffer, 0);
+            Source::Bytes(&buffer[..size])
+        }
+        Spelling::Word(w) => Source::Bytes(w),
     }
 }
 
 /// The texts of two values kept as one.
-pub fn keep_joined(
-    code: &[u8],
-    n: usize,
-    text: &mut [u8],
-    m: usize,
-    v: Value,
-    u: Value,
-) -> Option<usize>
-    requires n_in_bounds { n ≤ length code.now }
-    requires m_le_text_limit { (m ≤ text_limit) × (length text.old ≡ text_limit) }
-    ensures { Keeps (to_js_string (stores_of code.now n text.old m) (value_of v) ++ to_js_string (stores_of code.now n text.old m) (value_of u)) m text.old result text.new }
+pub fn keep_joined(code: &[u8], text: &mut [u8], m: usize, v: Value, u: Value) -> Option<usize>
+    requires { (m ≤ text_limit) × (length text.old ≡ text_limit) }
+    ensures { Keeps (to_js_string (texts_of code.now text.old m) (value_of v) ++ to_js_string (texts_of code.now text.old m) (value_of u)) m text.old result text.new }
 {
-    let texts = Texts::new(code, n, text, m);
+    let texts = Texts::with_code(code, text, m);
     let a = Spelling::of(v);
     let b = Spelling::of(u);
     let x = a.size(&texts);
@@ -145,8 +140,8 @@ pub fn keep_joined(
     if TEXT_LIMIT - e < y {
         return None;
     }
-    a.append(code, n, text, m, m);
-    b.append(code, n, text, m, e);
+    a.append(code, text, m, m);
+    b.append(code, text, m, e);
     Some(e + y)
 }
 

@@ -1,7 +1,7 @@
 //! The two stores that have texts.
 ghost use Rattle.std.specs.Prelude.{◌≡◌, ◌≤◌, length, take, drop};
 ghost use Rattle.value.specs.Lists.{bytes_of};
-ghost use Rattle.texts.specs.Sources.{InUse, source_bytes, stores_of};
+ghost use Rattle.texts.specs.Sources.{InUse, source_bytes, stores_of, texts_of};
 
 use crate::{Source, cut};
 use std::marker::Model;
@@ -34,8 +34,16 @@ impl<'a> Texts<'a> {
         requires { InUse code.now n text.now m }
         ensures { result ≡ stores_of code.now n text.now m }
     {
+        Texts::with_code(in_use(code, n), text, m)
+    }
+
+    /// The same where the bytes of code in use are cut already.
+    pub fn with_code(code: &'a [u8], text: &'a [u8], m: usize) -> Texts<'a>
+        requires { m ≤ length text.now }
+        ensures { result ≡ texts_of code.now text.now m }
+    {
         Texts {
-            code: in_use(code, n),
+            code,
             text: in_use(text, m),
         }
     }
@@ -67,15 +75,15 @@ impl<'a> Texts<'a> {
     }
 
     /// The bytes of a text.
-    pub fn bytes_of<'b>(&self, buffer: &'b [u8], source: Source) -> &'b [u8]
+    pub fn bytes_of<'b>(&self, source: Source<'b>) -> &'b [u8]
     where
         'a: 'b,
-        ensures { result.now ≡ source_bytes self.now buffer.now source }
+        ensures { result.now ≡ source_bytes self.now source.entry }
     {
         match source {
             Source::Code(at, size) => self.code_text(at, size),
             Source::Text(at, size) => self.made_text(at, size),
-            Source::Buffer(size) => cut(buffer, 0, size),
+            Source::Bytes(bytes) => bytes,
         }
     }
 }

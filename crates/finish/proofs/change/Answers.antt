@@ -1,3 +1,4 @@
+use Rattle.heapops.specs.Turns.{has_code}
 use Rattle.heapops.specs.Follows.{weaken, any}
 use Rattle.finish.specs.Laws.{to_coded, to_constants, to_loaded}
 use Rattle.finish.proofs.change.Goals as goal
@@ -9,7 +10,7 @@ pub returns-in-StoreProperty : goal.returns-in-StoreProperty
 returns-in-StoreProperty c = λ r s o. rw c.in-StoreProperty.is (weaken to_constants (c.store_property.ensures o))
 
 pub returns-in-StoreIndex : goal.returns-in-StoreIndex
-returns-in-StoreIndex c = λ r s o. rw c.in-StoreIndex.is (weaken to_loaded (c.store_index.ensures o))
+returns-in-StoreIndex c = λ r s o. rw c.in-StoreIndex.is (weaken (λ s g. has_code c.in_use.ensures s (to_loaded s g)) (c.store_index.ensures o))
 
 pub returns-in-CreateObject : goal.returns-in-CreateObject
 returns-in-CreateObject c = λ r s o. rw c.in-CreateObject.is (any (c.create_object.ensures c.args.text.now o))

@@ -7,8 +7,11 @@ use Rattle.globals.proofs.set_global.Goals as goal
 pub put-requires-clause-sized : goal.put-requires-clause-sized
 put-requires-clause-sized c = lent_sized c.in_ok-lent.ensures
 
-pub put-requires-clause-n_in_bounds : goal.put-requires-clause-n_in_bounds
-put-requires-clause-n_in_bounds c = let e = c.in_ok-lent.ensures in ((lent_use e).code, (lent_within e).text, (lent_lengths e).text)
+pub in_use-requires : goal.in_use-requires
+in_use-requires c = (lent_use c.in_ok-lent.ensures).code
+
+pub put-requires-clause-m_le_text_limit : goal.put-requires-clause-m_le_text_limit
+put-requires-clause-m_le_text_limit c = let e = c.in_ok-lent.ensures in ((lent_within e).text, (lent_lengths e).text)
 
 pub returns-in_err-sizes : goal.returns-in_err-sizes
 returns-in_err-sizes c =

@@ -11,4 +11,4 @@ pub returns-in_default-pop : goal.returns-in_default-pop
 returns-in_default-pop c = global_short c.args.places.now c.fetch_word.ensures c.requires.runs c.in-Some.is c.pop.ensures c.in_default-pop.is c.with_operands.ensures c.failed-in_default-pop.ensures
 
 pub returns : goal.returns
-returns c = global_stored c.args.places.now c.fetch_word.ensures c.requires.runs c.in-Some.is c.name-key.ensures c.pop.ensures c.in-Some-pop.is c.put_global-r.ensures c.settle_placed.ensures
+returns c = global_stored c.args.places.now c.fetch_word.ensures c.requires.runs c.in-Some.is c.name-key.ensures c.pop.ensures c.in-Some-pop.is (rw c.in_use.ensures at c.put_global-r.ensures) c.settle_placed.ensures

@@ -9,4 +9,4 @@ pub returns-in_default-pop_two : goal.returns-in_default-pop_two
 returns-in_default-pop_two c = property_short c.args.places.now c.fetch_word.ensures c.requires.runs c.in-Some.is c.pop_two.ensures c.in_default-pop_two.is c.with_operands.ensures c.failed-in_default-pop_two.ensures
 
 pub returns : goal.returns
-returns c = property_stored c.args.places.now c.fetch_word.ensures c.requires.runs c.in-Some.is c.name-key.ensures c.pop_two.ensures c.in-Some-pop_two.is c.set_property-r.ensures c.settle_placed.ensures
+returns c = property_stored c.args.places.now c.fetch_word.ensures c.requires.runs c.in-Some.is c.name-key.ensures c.pop_two.ensures c.in-Some-pop_two.is (rw c.in_use-used.ensures at c.set_property-r.ensures) c.settle_placed.ensures
