@@ -4,9 +4,10 @@
 ghost use Rattle.std.specs.Prelude.{length};
 ghost use Rattle.machine.specs.Host as Host;
 ghost use Rattle.texts.specs.Spells.{Writes};
+ghost use Rattle.finish.specs.Parts.{tables_of};
 ghost use Rattle.host.specs.Calls.{Called, Buffered, answer_of_text, answer_of_drain, counts_of_drain};
 ghost use Rattle.host.specs.Givens.{given_of};
-ghost use Rattle.host.specs.Stores.{tables_of, mem_of};
+ghost use Rattle.host.specs.Stores.{mem_of};
 
 use heapops::Counts;
 use host::{Given, Images, Memory, Refusal, questions};

@@ -1,9 +1,9 @@
 //! Load and register: what an image brings, and a template of it made a function.
 ghost use Rattle.machine.specs.Host as Host;
 ghost use Rattle.heapops.specs.Turns.{mem};
-ghost use Rattle.finish.specs.Parts.{tables};
+ghost use Rattle.finish.specs.Parts.{tables, tables_of};
 ghost use Rattle.host.specs.Calls.{Called, answer_of_numbered, counts_of_numbered};
-ghost use Rattle.host.specs.Stores.{tables_of, mem_of};
+ghost use Rattle.host.specs.Stores.{mem_of};
 
 use heapops::Counts;
 use host::{Images, Memory, Refusal, questions};

@@ -1,8 +1,8 @@
 //! A run.
 ghost use Rattle.machine.specs.Host as Host;
 ghost use Rattle.heapops.specs.Turns.{mem};
+ghost use Rattle.finish.specs.Parts.{tables_of};
 ghost use Rattle.host.specs.Calls.{Called, answer_of_run, counts_of_run};
-ghost use Rattle.host.specs.Stores.{tables_of};
 
 use heapops::Counts;
 use host::{Images, Memory, Refusal, questions};
@@ -29,15 +29,5 @@ pub fn run(
     questions::lent(images, memory, c)?;
     questions::loaded(images, c, image)?;
     let depths = c.depths.push_frame(stacks, image as u64, 0)?;
-    Ok(run::run_loop(
-        Counts { depths, ..c },
-        images.code,
-        images.places,
-        images.rows,
-        images.starts,
-        stacks,
-        heap,
-        text,
-        output,
-    ))
+    Ok(run::run_loop(Counts { depths, ..c }, images, stacks, heap, text, output))
 }

@@ -9,6 +9,7 @@ use Rattle.value.specs.Words.{value_of}
 use Rattle.stacks.specs.View as Stacks
 use Rattle.stacks.specs.declared.Depths.{Depths}
 use Rattle.image.specs.View.{images_of}
+use Rattle.image.specs.declared.stores.Images.{Images}
 use Rattle.heap.specs.View.{Held}
 use Rattle.opcode.specs.Programs.{deferred}
 use Rattle.outcome.specs.Meets.{end_of, registers, joins, prints}
@@ -51,6 +52,9 @@ pub record Tables : Type 0 where
 
 abbrev pub tables : List ℕ → List ℕ → List ℕ → List ℕ → Tables
 tables c p r s = record { code = c; places = p; rows = r; starts = s }
+
+abbrev pub tables_of : Images → Tables
+tables_of x = tables x.code.now x.places.now x.rows.now x.starts.now
 
 -- The state s has the code and the images that the stores hold, and in these images the template that is kept as running.
 pub record Ground (x : Running) (c : Counts) (g : Tables) (s : St.State) : Type 0 where

@@ -7,11 +7,12 @@ ghost use Rattle.opcode.specs.Programs.{deferred, looking_up, changing};
 ghost use Rattle.outcome.specs.Meets.{Meets};
 ghost use Rattle.heap.specs.View.{Sized};
 ghost use Rattle.heapops.specs.Turns.{Turns, mem, Loaded};
-ghost use Rattle.finish.specs.Parts.{Completes, Finishes, Ground, LeftReady, LeftBy, MoreReady, Looks, tables, steady_of};
+ghost use Rattle.finish.specs.Parts.{Completes, Finishes, Ground, LeftReady, LeftBy, MoreReady, Looks, tables, tables_of, steady_of};
 
 use fetch::Running;
 use heap::Heap;
 use heapops::{Counts, Turned, create, joining, print, stores};
+use image::Images;
 use opcode::{Change, Deferred, Lookup};
 use outcome::{Part, Stepped};
 use readops::{call, constants, lookups};
@@ -63,20 +64,23 @@ fn look_up(
     op: Lookup,
     x: Running,
     c: Counts,
-    code: &[u8],
-    places: &[u16],
-    rows: &[u16],
-    starts: &[u16],
+    images: Images,
     texts: &Texts,
     heap: &Heap,
     stacks: &mut [u64],
 ) -> Stepped
     requires more_ready { MoreReady x c.depths stacks.old }
-    requires code_in_bounds { c.code ≤ length code.now }
-    ensures { Meets (Looks x c (tables code.now places.now rows.now starts.now) texts.now heap.now) (looking_up op) c.depths stacks.old result stacks.new }
+    requires code_in_bounds { c.code ≤ length images.code.now }
+    ensures { Meets (Looks x c (tables_of images.entry) texts.now heap.now) (looking_up op) c.depths stacks.old result stacks.new }
 {
     let d = c.depths;
     let n = c.code;
+    let Images {
+        code,
+        places,
+        rows,
+        starts,
+    } = images;
     match op {
         Lookup::LoadGlobal => lookups::load_global(x, d, code, n, places, texts, heap, stacks),
         Lookup::LoadProperty => lookups::load_property(x, d, code, n, places, texts, heap, stacks),
@@ -118,30 +122,27 @@ pub fn execute_more(
     op: Deferred,
     x: Running,
     c: Counts,
-    code: &[u8],
-    places: &[u16],
-    rows: &[u16],
-    starts: &[u16],
+    images: Images,
     stacks: &mut [u64],
     heap: &mut [u64],
     text: &mut [u8],
     output: &mut [u8],
 ) -> Turned
     requires more_ready { MoreReady x c.depths stacks.old }
-    requires code_in_bounds { c.code ≤ length code.now }
+    requires code_in_bounds { c.code ≤ length images.code.now }
     requires sized { Sized c.sizes heap.old }
     requires text_le_text_limit { (c.text ≤ text_limit) × (length text.old ≡ text_limit) }
     requires output_le_output_limit { (c.output ≤ output_limit) × (length output.old ≡ output_limit) }
-    ensures { Turns (Ground x c (tables code.now places.now rows.now starts.now)) (deferred op) c (mem stacks.old heap.old text.old output.old) result (mem stacks.new heap.new text.new output.new) }
+    ensures { Turns (Ground x c (tables_of images.entry)) (deferred op) c (mem stacks.old heap.old text.old output.old) result (mem stacks.new heap.new text.new output.new) }
 {
     match op {
         Deferred::Lookup(op) => {
-            let texts = Texts::new(code, c.code, text, c.text);
+            let texts = Texts::new(images.code, c.code, text, c.text);
             let held = Heap::new(c.sizes, heap);
-            let r = look_up(op, x, c, code, places, rows, starts, &texts, &held, stacks);
-            complete(r, c, code, stacks, heap, text, output)
+            let r = look_up(op, x, c, images, &texts, &held, stacks);
+            complete(r, c, images.code, stacks, heap, text, output)
         }
-        Deferred::Change(op) => change(op, x, c, code, places, stacks, heap, text),
+        Deferred::Change(op) => change(op, x, c, images.code, images.places, stacks, heap, text),
     }
 }
 
@@ -150,32 +151,27 @@ pub fn finish(
     r: Stepped,
     x: Running,
     c: Counts,
-    code: &[u8],
-    places: &[u16],
-    rows: &[u16],
-    starts: &[u16],
+    images: Images,
     stacks: &mut [u64],
     heap: &mut [u64],
     text: &mut [u8],
     output: &mut [u8],
 ) -> Turned
     requires left_by { LeftBy x r.how r.depths stacks.old }
-    requires code_in_bounds { c.code ≤ length code.now }
+    requires code_in_bounds { c.code ≤ length images.code.now }
     requires sized { Sized c.sizes heap.old }
     requires text_le_text_limit { (c.text ≤ text_limit) × (length text.old ≡ text_limit) }
     requires output_le_output_limit { (c.output ≤ output_limit) × (length output.old ≡ output_limit) }
-    ensures { Finishes (Ground x c (tables code.now places.now rows.now starts.now)) x c (mem stacks.old heap.old text.old output.old) r result (mem stacks.new heap.new text.new output.new) }
+    ensures { Finishes (Ground x c (tables_of images.entry)) x c (mem stacks.old heap.old text.old output.old) r result (mem stacks.new heap.new text.new output.new) }
 {
     match r.how {
         Part::More(op) => {
             let e = c.with_depths(r.depths);
-            let t = execute_more(
-                op, x, e, code, places, rows, starts, stacks, heap, text, output,
-            );
+            let t = execute_more(op, x, e, images, stacks, heap, text, output);
             steady(c, t)
         }
         _ => {
-            let t = complete(r, c, code, stacks, heap, text, output);
+            let t = complete(r, c, images.code, stacks, heap, text, output);
             steady(c, t)
         }
     }

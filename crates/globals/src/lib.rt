@@ -8,9 +8,10 @@ ghost use Rattle.texts.specs.Keeps.{text_limit};
 ghost use Rattle.heap.specs.View.{Sized};
 ghost use Rattle.objects.specs.View.{Puts};
 ghost use Rattle.heapops.specs.Turns.{mem};
+ghost use Rattle.finish.specs.Parts.{tables_of};
 ghost use Rattle.host.specs.Calls.{Called, answer_of_changed, counts_of_changed, answer_of_read};
 ghost use Rattle.host.specs.Givens.{given_of};
-ghost use Rattle.host.specs.Stores.{tables_of, mem_of};
+ghost use Rattle.host.specs.Stores.{mem_of};
 
 use heap::{Heap, Sizes};
 use heapops::Counts;

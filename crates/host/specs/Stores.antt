@@ -1,15 +1,11 @@
 -- What the stores hold. Assumes nothing.
 use Rattle.std.specs.Prelude.{List}
 use Rattle.heapops.specs.Turns.{Mem, mem}
-use Rattle.finish.specs.Parts.{Tables, tables}
+use Rattle.finish.specs.Parts.{Tables}
 use Rattle.machine.specs.Image.{Template}
 use Rattle.image.specs.View.{images_of}
 use Rattle.heapops.specs.declared.Counts.{Counts}
-use Rattle.host.specs.declared.stores.Images.{Images}
 use Rattle.host.specs.declared.stores.Memory.{Memory}
-
-abbrev pub tables_of : Images → Tables
-tables_of x = tables x.code.now x.places.now x.rows.now x.starts.now
 
 abbrev pub mem_of : Memory → Mem
 mem_of x = mem x.stacks.now x.heap.now x.text.now x.output.now

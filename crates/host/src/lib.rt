@@ -7,5 +7,6 @@ mod refusal;
 mod stores;
 
 pub use given::Given;
+pub use image::Images;
 pub use refusal::Refusal;
-pub use stores::{Images, Memory};
+pub use stores::Memory;

@@ -3,12 +3,13 @@ ghost use Rattle.std.specs.Prelude.{◌≡◌, false, ◌&&◌, [], ◌+◌, ◌
 ghost use Rattle.machine.specs.Basic.{is_ascii};
 ghost use Rattle.machine.specs.Host as Host;
 ghost use Rattle.value.specs.Words.{value_of};
+ghost use Rattle.finish.specs.Parts.{tables_of};
 ghost use Rattle.host.specs.declared.refusal.Refusal.TheVariants.{StoreSizes, NotAscii, Handle, NoImage, NoTemplate};
 ghost use Rattle.host.specs.Calls.{sizes_right, counts_right, lent as are_lent};
 ghost use Rattle.host.specs.Lent.{Lent};
 ghost use Rattle.host.specs.Inside.{inside_of};
 ghost use Rattle.host.specs.Refusals.{Asks};
-ghost use Rattle.host.specs.Stores.{tables_of, mem_of, images_in};
+ghost use Rattle.host.specs.Stores.{mem_of, images_in};
 
 use crate::{Images, Memory, Refusal};
 use heapops::Counts;

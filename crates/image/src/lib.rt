@@ -13,9 +13,11 @@ ghost use Rattle.image.specs.Near.{Nears};
 ghost use Rattle.image.specs.Load.{sizes_listed, Loads, Fitting, AppendSays, space_of, space_refusal, template_from, found_of};
 
 mod error;
+mod stores;
 
 pub use error::LoadError;
 use reader::{Constant, ImageError, Reader};
+pub use stores::Images;
 
 // The listed sizes. Both tables have an entry for each byte of code.
 pub const CODE_BYTES: usize = 32768;

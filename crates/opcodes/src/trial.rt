@@ -8,12 +8,13 @@ ghost use Rattle.heap.specs.View.{Sized};
 ghost use Rattle.fetch.specs.Running.{Runs};
 ghost use Rattle.opcode.specs.Programs.{instruction_of};
 ghost use Rattle.heapops.specs.Turns.{Turns, mem};
-ghost use Rattle.finish.specs.Parts.{Ground, tables};
+ghost use Rattle.finish.specs.Parts.{Ground, tables_of};
 ghost use Rattle.opcodes.specs.Trials.{Objects, Tells, attempt_by, attempted_as};
 
 use fetch::Running;
 use heap::{HEAP_WORDS, Sizes};
 use heapops::{Counts, How, Turned};
+use image::Images;
 use opcode::Opcode;
 use stacks::{Depths, STACK_WORDS};
 use texts::{OUTPUT_LIMIT, TEXT_LIMIT, Texts};
@@ -41,10 +42,7 @@ fn perform(
     op: Opcode,
     x: Running,
     c: Counts,
-    code: &[u8],
-    places: &[u16],
-    rows: &[u16],
-    starts: &[u16],
+    images: Images,
     stacks: &mut [u64],
     heap: &mut [u64],
     text: &mut [u8],
@@ -52,17 +50,24 @@ fn perform(
 ) -> Turned
     requires ready { Ready c.depths stacks.old }
     requires runs { Runs x c.depths stacks.old }
-    requires code_in_bounds { c.code ≤ length code.now }
+    requires code_in_bounds { c.code ≤ length images.code.now }
     requires sized { Sized c.sizes heap.old }
     requires text_le_text_limit { (c.text ≤ text_limit) × (length text.old ≡ text_limit) }
     requires output_le_output_limit { (c.output ≤ output_limit) × (length output.old ≡ output_limit) }
-    ensures { Turns (Ground x c (tables code.now places.now rows.now starts.now)) (instruction_of op) c (mem stacks.old heap.old text.old output.old) result (mem stacks.new heap.new text.new output.new) }
+    ensures { Turns (Ground x c (tables_of images.entry)) (instruction_of op) c (mem stacks.old heap.old text.old output.old) result (mem stacks.new heap.new text.new output.new) }
 {
-    let texts = Texts::new(code, c.code, text, c.text);
-    let r = dispatch::execute(op, x, c.depths, code, c.code, places, stacks, &texts);
-    finish::finish(
-        r, x, c, code, places, rows, starts, stacks, heap, text, output,
-    )
+    let texts = Texts::new(images.code, c.code, text, c.text);
+    let r = dispatch::execute(
+        op,
+        x,
+        c.depths,
+        images.code,
+        c.code,
+        images.places,
+        stacks,
+        &texts,
+    );
+    finish::finish(r, x, c, images, stacks, heap, text, output)
 }
 
 // The operands of the frame that an instruction went on in, 0 where it left it.
@@ -110,6 +115,12 @@ pub fn attempt_of(
     let places: [u16; 1] = [0];
     let rows: [u16; 8] = [1, 0, 0, 0, 0, 0, 0, n];
     let starts: [u16; 1] = [0];
+    let images = Images {
+        code: &code,
+        places: &places,
+        rows: &rows,
+        starts: &starts,
+    };
     let mut stacks: [u64; STACK_WORDS] = [0; STACK_WORDS];
     place_operands(&mut stacks);
     let c = Counts {
@@ -131,19 +142,7 @@ pub fn attempt_of(
         text: 0,
         output: 0,
     };
-    let x = fetch::find(&rows, &starts, 1, 0, 0);
-    let t = perform(
-        op,
-        x,
-        c,
-        &code,
-        &places,
-        &rows,
-        &starts,
-        &mut stacks,
-        heap,
-        text,
-        output,
-    );
+    let x = fetch::find(images.rows, images.starts, 1, 0, 0);
+    let t = perform(op, x, c, images, &mut stacks, heap, text, output);
     attempted(t)
 }

@@ -17,6 +17,7 @@ use crate::with_count;
 use fetch::Running;
 use heap::Heap;
 use heapops::Counts;
+use image::Images;
 use opcode::Opcode;
 use quick::{byte_at, control, opcode_at, settle};
 use readops::constants::is_text;
@@ -58,20 +59,12 @@ pub fn join(c: Counts, code: &[u8], stacks: &mut [u64], text: &mut [u8]) -> Opti
     None
 }
 
-fn call(
-    x: Running,
-    c: Counts,
-    code: &[u8],
-    rows: &[u16],
-    starts: &[u16],
-    stacks: &mut [u64],
-    heap: &[u64],
-) -> Option<Depths>
+fn call(x: Running, c: Counts, images: Images, stacks: &mut [u64], heap: &[u64]) -> Option<Depths>
     requires ready { Ready c.depths stacks.old }
     requires runs { Runs x c.depths stacks.old }
-    requires inside { Inside x c.code code.now }
+    requires inside { Inside x c.code images.code.now }
     requires sized { Sized c.sizes heap.now }
-    ensures { (places : List ℕ) → Quickly (Callable x c.code code.now places rows.now starts.now c.images (held_in c.sizes heap.now)) Call c.depths stacks.old result stacks.new }
+    ensures { (places : List ℕ) → Quickly (Callable x c.code images.entry.code.now places images.entry.rows.now images.entry.starts.now c.images (held_in c.sizes heap.now)) Call c.depths stacks.old result stacks.new }
 {
     let d = c.depths;
     let p = d.ip;
@@ -79,7 +72,7 @@ fn call(
         return None;
     }
     let e = d.with_ip(p + 1);
-    let argc = byte_at(code, x.shape.at + p);
+    let argc = byte_at(images.code, x.shape.at + p);
     let n = d.operands;
     if n <= argc {
         return None;
@@ -90,7 +83,7 @@ fn call(
     };
     let callee = Heap::new(c.sizes, heap).function(id)?;
     let (i, t) = (callee.image, callee.template);
-    let s = image::template_at(rows, starts, c.images, i as usize, t as usize);
+    let s = image::template_at(images.rows, images.starts, c.images, i as usize, t as usize);
     let f = e.with_operands(k);
     settle(f.call_frame(stacks, i, t, argc, s.param_count, s.local_count))
 }
@@ -100,23 +93,21 @@ fn execute(
     op: u8,
     x: Running,
     c: Counts,
-    code: &[u8],
-    rows: &[u16],
-    starts: &[u16],
+    images: Images,
     stacks: &mut [u64],
     heap: &[u64],
     text: &mut [u8],
 ) -> Option<(Depths, usize)>
     requires ready { Ready c.depths stacks.old }
     requires runs { Runs x c.depths stacks.old }
-    requires inside { Inside x c.code code.now }
+    requires inside { Inside x c.code images.code.now }
     requires sized { Sized c.sizes heap.now }
     requires text_le_text_limit { (c.text ≤ text_limit) × (length text.old ≡ text_limit) }
-    ensures { (places o : List ℕ) → Leaps (Ground x c (tables code.now places rows.now starts.now)) (instruction op) c (mem stacks.old heap.now text.old o) result (mem stacks.new heap.now text.new o) }
+    ensures { (places o : List ℕ) → Leaps (Ground x c (tables images.entry.code.now places images.entry.rows.now images.entry.starts.now)) (instruction op) c (mem stacks.old heap.now text.old o) result (mem stacks.new heap.now text.new o) }
 {
     match op {
-        Opcode::ADD => join(c, code, stacks, text),
-        Opcode::CALL => with_count(call(x, c, code, rows, starts, stacks, heap), c.text),
+        Opcode::ADD => join(c, images.code, stacks, text),
+        Opcode::CALL => with_count(call(x, c, images, stacks, heap), c.text),
         Opcode::RETURN => with_count(control::return_value(c.depths, stacks), c.text),
         Opcode::THROW => with_count(control::throw_far(c.depths, stacks), c.text),
         _ => None,
@@ -127,26 +118,24 @@ fn execute(
 pub fn step(
     x: Running,
     c: Counts,
-    code: &[u8],
-    rows: &[u16],
-    starts: &[u16],
+    images: Images,
     stacks: &mut [u64],
     heap: &[u64],
     text: &mut [u8],
 ) -> Option<(Depths, usize)>
     requires ready { Ready c.depths stacks.old }
     requires runs { Runs x c.depths stacks.old }
-    requires inside { Inside x c.code code.now }
+    requires inside { Inside x c.code images.code.now }
     requires sized { Sized c.sizes heap.now }
     requires text_le_text_limit { (c.text ≤ text_limit) × (length text.old ≡ text_limit) }
-    ensures { (places o : List ℕ) → LeapStep (Ground x c (tables code.now places rows.now starts.now)) c (mem stacks.old heap.now text.old o) result (mem stacks.new heap.now text.new o) }
+    ensures { (places o : List ℕ) → LeapStep (Ground x c (tables images.entry.code.now places images.entry.rows.now images.entry.starts.now)) c (mem stacks.old heap.now text.old o) result (mem stacks.new heap.now text.new o) }
 {
     let d = c.depths;
     let p = d.ip;
     if p < x.shape.size {
-        let op = opcode_at(code, x.shape.at + p);
+        let op = opcode_at(images.code, x.shape.at + p);
         let e = c.with_depths(d.with_ip(p + 1));
-        return execute(op, x, e, code, rows, starts, stacks, heap, text);
+        return execute(op, x, e, images, stacks, heap, text);
     }
     None
 }

@@ -6,13 +6,14 @@ ghost use Rattle.texts.specs.Keeps.{text_limit, output_limit};
 ghost use Rattle.heap.specs.View.{Sized};
 ghost use Rattle.fetch.specs.Running.{Runs, Known};
 ghost use Rattle.heapops.specs.Turns.{mem};
-ghost use Rattle.finish.specs.Parts.{tables};
+ghost use Rattle.finish.specs.Parts.{tables_of};
 ghost use Rattle.run.specs.Runs.{Takes, Whole, ground_of};
 ghost use Rattle.run.specs.Advances.{Advances, progress, advanced};
 
 use crate::speed::{HINTS, speed};
 use fetch::Running;
 use heapops::{Counts, How, Turned};
+use image::Images;
 use outcome::Part;
 use texts::Texts;
 
@@ -47,10 +48,7 @@ fn came(counts: Counts, running: Running, steps: usize, how: How) -> Advanced
 fn turn(
     x: Running,
     c: Counts,
-    code: &[u8],
-    places: &[u16],
-    rows: &[u16],
-    starts: &[u16],
+    images: Images,
     stacks: &mut [u64],
     heap: &mut [u64],
     text: &mut [u8],
@@ -58,20 +56,26 @@ fn turn(
 ) -> Turned
     requires ready { Ready c.depths stacks.old }
     requires runs { (c.depths.frames ≡ 0 → ⊥) → Runs x c.depths stacks.old }
-    requires code_in_bounds { c.code ≤ length code.now }
+    requires code_in_bounds { c.code ≤ length images.code.now }
     requires sized { Sized c.sizes heap.old }
     requires text_le_text_limit { (c.text ≤ text_limit) × (length text.old ≡ text_limit) }
     requires output_le_output_limit { (c.output ≤ output_limit) × (length output.old ≡ output_limit) }
-    ensures { Takes x c (tables code.now places.now rows.now starts.now) (mem stacks.old heap.old text.old output.old) result (mem stacks.new heap.new text.new output.new) }
+    ensures { Takes x c (tables_of images.entry) (mem stacks.old heap.old text.old output.old) result (mem stacks.new heap.new text.new output.new) }
 {
-    let texts = Texts::new(code, c.code, text, c.text);
-    let r = dispatch::step(x, c.depths, code, c.code, places, stacks, &texts);
+    let texts = Texts::new(images.code, c.code, text, c.text);
+    let r = dispatch::step(
+        x,
+        c.depths,
+        images.code,
+        c.code,
+        images.places,
+        stacks,
+        &texts,
+    );
     let part = r.how;
     match part {
         Part::Went => heapops::went(c.with_depths(r.depths)),
-        _ => finish::finish(
-            r, x, c, code, places, rows, starts, stacks, heap, text, output,
-        ),
+        _ => finish::finish(r, x, c, images, stacks, heap, text, output),
     }
 }
 
@@ -80,28 +84,23 @@ fn proceed(
     y: Running,
     c: Counts,
     made: usize,
-    code: &[u8],
-    places: &[u16],
-    rows: &[u16],
-    starts: &[u16],
+    images: Images,
     stacks: &mut [u64],
     heap: &mut [u64],
     text: &mut [u8],
     output: &mut [u8],
     hints: &mut [usize; HINTS],
 ) -> Advanced
-    requires whole { Whole c (tables code.now places.now rows.now starts.now) (mem stacks.old heap.old text.old output.old) (ground_of c (tables code.now places.now rows.now starts.now)) }
-    requires known { Known rows.now starts.now c.images y }
+    requires whole { Whole c (tables_of images) (mem stacks.old heap.old text.old output.old) (ground_of c (tables_of images)) }
+    requires known { Known images.rows.now images.starts.now c.images y }
     requires made_lt_max_steps { made < max_steps }
-    ensures { Advances c (tables code.now places.now rows.now starts.now) (mem stacks.old heap.old text.old output.old) made result (mem stacks.new heap.new text.new output.new) }
+    ensures { Advances c (tables_of images.entry) (mem stacks.old heap.old text.old output.old) made result (mem stacks.new heap.new text.new output.new) }
 {
-    let q = speed(
-        y, c, made, code, places, rows, starts, stacks, heap, text, hints,
-    );
+    let q = speed(y, c, made, images, stacks, heap, text, hints);
     let d = q.counts;
     let steps = q.steps + 1;
-    let x = fetch::current(y, d.depths, stacks, rows, starts, d.images);
-    let t = turn(x, d, code, places, rows, starts, stacks, heap, text, output);
+    let x = fetch::current(y, d.depths, stacks, images.rows, images.starts, d.images);
+    let t = turn(x, d, images, stacks, heap, text, output);
     let how = t.how;
     let counts = t.counts;
     match how {
@@ -114,24 +113,19 @@ pub fn advance<'c>(
     c: &'c mut Counts,
     x: Running,
     made: usize,
-    code: &[u8],
-    places: &[u16],
-    rows: &[u16],
-    starts: &[u16],
+    images: Images,
     stacks: &mut [u64],
     heap: &mut [u64],
     text: &mut [u8],
     output: &mut [u8],
     hints: &mut [usize; HINTS],
 ) -> Progress
-    requires whole { Whole c.old (tables code.now places.now rows.now starts.now) (mem stacks.old heap.old text.old output.old) (ground_of c.old (tables code.now places.now rows.now starts.now)) }
-    requires known { Known rows.now starts.now c.old.images x }
+    requires whole { Whole c.old (tables_of images) (mem stacks.old heap.old text.old output.old) (ground_of c.old (tables_of images)) }
+    requires known { Known images.rows.now images.starts.now c.old.images x }
     requires made_lt_max_steps { made < max_steps }
-    ensures { Advances c.old (tables code.now places.now rows.now starts.now) (mem stacks.old heap.old text.old output.old) made (advanced c.new result) (mem stacks.new heap.new text.new output.new) }
+    ensures { Advances c.old (tables_of images.entry) (mem stacks.old heap.old text.old output.old) made (advanced c.new result) (mem stacks.new heap.new text.new output.new) }
 {
-    let next = proceed(
-        x, *c, made, code, places, rows, starts, stacks, heap, text, output, hints,
-    );
+    let next = proceed(x, *c, made, images, stacks, heap, text, output, hints);
     *c = next.counts;
     next.progress
 }

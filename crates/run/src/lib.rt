@@ -10,11 +10,12 @@ ghost use Rattle.machine.specs.Run as R;
 ghost use Rattle.value.specs.Errors.{error_of};
 ghost use Rattle.value.specs.Words.{value_of};
 ghost use Rattle.heapops.specs.Turns.{mem};
-ghost use Rattle.finish.specs.Parts.{tables};
+ghost use Rattle.finish.specs.Parts.{tables_of};
 ghost use Rattle.run.specs.Runs.{result_of, ending_of, ran_to, at_rest, Whole, ground_of, state_in, ran_of, run_of, Leaves};
 
 use advance::advance;
 use heapops::{Counts, How};
+use image::Images;
 use speed::HINTS;
 use stacks::Depths;
 use value::{JsVmError, Stop, Value};
@@ -87,28 +88,25 @@ pub const MAX_STEPS: usize = 100000;
 // The steps of a run, counted.
 pub fn run_loop(
     c: Counts,
-    code: &[u8],
-    places: &[u16],
-    rows: &[u16],
-    starts: &[u16],
+    images: Images,
     stacks: &mut [u64],
     heap: &mut [u64],
     text: &mut [u8],
     output: &mut [u8],
 ) -> Ran
-    requires { Whole c (tables code.now places.now rows.now starts.now) (mem stacks.old heap.old text.old output.old) (ground_of c (tables code.now places.now rows.now starts.now)) }
-    ensures ran { Unique (state_in c (tables code.now places.now rows.now starts.now) (mem stacks.old heap.old text.old output.old))
-        → ran_of result c (tables code.now places.now rows.now starts.now) (mem stacks.new heap.new text.new output.new)
-        ≡ run_of R.max_steps 0 (state_in c (tables code.now places.now rows.now starts.now) (mem stacks.old heap.old text.old output.old)) }
-    ensures leaves { Leaves c result.counts (tables code.now places.now rows.now starts.now) (mem stacks.new heap.new text.new output.new) }
+    requires { Whole c (tables_of images) (mem stacks.old heap.old text.old output.old) (ground_of c (tables_of images)) }
+    ensures ran { Unique (state_in c (tables_of images.entry) (mem stacks.old heap.old text.old output.old))
+        → ran_of result c (tables_of images.entry) (mem stacks.new heap.new text.new output.new)
+        ≡ run_of R.max_steps 0 (state_in c (tables_of images.entry) (mem stacks.old heap.old text.old output.old)) }
+    ensures leaves { Leaves c result.counts (tables_of images.entry) (mem stacks.new heap.new text.new output.new) }
 {
-    let mut x = fetch::find(rows, starts, c.images, 0, 0);
+    let mut x = fetch::find(images.rows, images.starts, c.images, 0, 0);
     let mut hints = [0; HINTS];
     let mut d = c;
     let mut steps: usize = 0;
     while steps < MAX_STEPS {
         let p = advance(
-            &mut d, x, steps, code, places, rows, starts, stacks, heap, text, output, &mut hints,
+            &mut d, x, steps, images, stacks, heap, text, output, &mut hints,
         );
         x = p.running;
         steps = p.steps;

@@ -7,13 +7,14 @@ ghost use Rattle.quick.specs.Quickly.{Inside};
 ghost use Rattle.quick.specs.Stays.{InFrame};
 ghost use Rattle.heap.specs.View.{Sized};
 ghost use Rattle.texts.specs.Keeps.{text_limit};
-ghost use Rattle.finish.specs.Parts.{tables};
+ghost use Rattle.finish.specs.Parts.{tables_of};
 ghost use Rattle.reach.specs.Leaps.{leapt_to};
 ghost use Rattle.run.specs.Speed.{Strides, Speeds, strode, sped_to, stay_of};
 
 use crate::MAX_STEPS;
 use fetch::Running;
 use heapops::Counts;
+use image::Images;
 use quick::Here;
 use reach::leaps;
 use stacks::{Depths, FRAMES_AT};
@@ -159,28 +160,26 @@ pub fn speed(
     y: Running,
     c: Counts,
     steps: usize,
-    code: &[u8],
-    places: &[u16],
-    rows: &[u16],
-    starts: &[u16],
+    images: Images,
     stacks: &mut [u64],
     heap: &mut [u64],
     text: &mut [u8],
     hints: &mut [usize; HINTS],
 ) -> Sped
     requires ready { Ready c.depths stacks.old }
-    requires known { Known rows.now starts.now c.images y }
-    requires code_in_bounds { c.code ≤ length code.now }
+    requires known { Known images.rows.now images.starts.now c.images y }
+    requires code_in_bounds { c.code ≤ length images.code.now }
     requires sized { Sized c.sizes heap.old }
     requires text_le_text_limit { (c.text ≤ text_limit) × (length text.old ≡ text_limit) }
     requires steps_lt_max_steps { steps < max_steps }
-    ensures { Speeds c (tables code.now places.now rows.now starts.now) stacks.old heap.old text.old steps result stacks.new heap.new text.new }
+    ensures { Speeds c (tables_of images.entry) stacks.old heap.old text.old steps result stacks.new heap.new text.new }
 {
+    let Images { code, places, .. } = images;
     let mut x = y;
     let mut d = c;
     let mut made = steps;
     while made < MAX_STEPS - 2 {
-        x = current(x, d.depths, stacks, rows, starts, d.images);
+        x = current(x, d.depths, stacks, images.rows, images.starts, d.images);
         if !loaded(x, d.code) {
             return sped_to(d, made);
         }
@@ -190,7 +189,7 @@ pub fn speed(
         let r = stride(x, h, d, made, code, places, stacks, heap, text, hints);
         d = d.with_depths(r.depths);
         made = r.steps;
-        let Some((f, m)) = leaps::step(x, d, code, rows, starts, stacks, heap, text) else {
+        let Some((f, m)) = leaps::step(x, d, images, stacks, heap, text) else {
             return sped_to(d, made);
         };
         d = leapt_to(d, f, m);

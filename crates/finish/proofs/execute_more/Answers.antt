@@ -6,4 +6,4 @@ pub returns-in-Lookup : goal.returns-in-Lookup
 returns-in-Lookup c = rw c.in-Lookup.is (by_part (rw (c.new-texts.ensures, c.new-held.ensures) at c.look_up-r.ensures) (looks_below (mem c.args.stacks.now c.args.heap.now c.args.text.now c.args.output.now)) to_loaded c.complete.ensures)
 
 pub returns-in-Change : goal.returns-in-Change
-returns-in-Change c = rw c.in-Change.is (c.change.ensures c.args.rows.now c.args.starts.now c.args.output.now)
+returns-in-Change c = rw c.in-Change.is (c.change.ensures c.args.images.rows.now c.args.images.starts.now c.args.output.now)

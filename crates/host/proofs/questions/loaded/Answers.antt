@@ -1,6 +1,6 @@
 use Rattle.std.proofs.Common.{refl, lt-ltb, le-ltb}
 use Rattle.host.specs.Lent.{images_length}
-use Rattle.host.specs.Stores.{tables_of}
+use Rattle.finish.specs.Parts.{tables_of}
 use Rattle.host.proofs.questions.loaded.Goals as goal
 
 pub returns-then-image-c : goal.returns-then-image-c

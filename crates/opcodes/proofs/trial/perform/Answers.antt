@@ -1,9 +1,9 @@
 use Rattle.heapops.specs.Turns.{mem}
-use Rattle.finish.specs.Parts.{tables}
+use Rattle.finish.specs.Parts.{tables_of}
 use Rattle.opcodes.specs.Trials.{turns}
 use Rattle.opcodes.proofs.trial.perform.Goals as goal
 
 pub returns : goal.returns
 returns c =
-    turns c.args.c (tables c.args.code.now c.args.places.now c.args.rows.now c.args.starts.now)
+    turns c.args.c (tables_of c.args.images)
     (mem c.args.stacks.now c.args.heap.now c.args.text.now c.args.output.now) (rw c.new-texts.ensures at c.execute-r.ensures) c.finish.ensures
