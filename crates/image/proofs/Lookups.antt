@@ -78,9 +78,33 @@ unknown s p (suc (suc (suc (suc zero)))) h = absurd (omega arith)
 unknown s p (suc (suc (suc (suc (suc zero))))) h = absurd (omega arith)
 unknown s p (suc (suc (suc (suc (suc (suc k)))))) h = refl
 
+module _ (s : List ℕ) (p k : ℕ) (e : k ≡ get_or s p 0) where
+  pub constant_by_lem : constant_at s p ≡ constant_by s p k
+  unfolding constant_at
+  constant_by_lem = rw e
+
+  pub constant_unknown : 6 ≤ k → constant_at s p ≡ Constant.undefined
+  constant_unknown h = constant_by_lem ∙ unknown s p k h
+
 big_endian : (a b c d e f g h : ℕ) → from_be_bytes w64 (a ∷ b ∷ c ∷ d ∷ e ∷ f ∷ g ∷ h ∷ [])
     ≡ (((((((0 * 256 + a) * 256 + b) * 256 + c) * 256 + d) * 256 + e) * 256 + f) * 256 + g) * 256 + h
 big_endian a b c d e f g h = omega arith
+
+-- Two and eight bytes of the code, as they stand.
+pub word_is : (s : List ℕ) (p : ℕ) → from_be_bytes w16 (get_or s p 0 ∷ get_or s (p + 1) 0 ∷ []) ≡ word_at s p
+word_is s p = refl
+
+pub long_is : (s : List ℕ) (p : ℕ)
+    → from_be_bytes w64 (get_or s p 0 ∷ get_or s (p + 1) 0 ∷ get_or s (p + 2) 0 ∷ get_or s (p + 3) 0 ∷ get_or s (p + 4) 0 ∷ get_or s (p + 5) 0 ∷ get_or s (p + 6) 0 ∷ get_or s (p + 7) 0 ∷ []) ≡ wide_at s 8 0 p
+long_is s p =
+    let e2 : p + 2 ≡ p + 1 + 1 = omega arith in
+    let e3 : p + 3 ≡ p + 1 + 1 + 1 = omega arith in
+    let e4 : p + 4 ≡ p + 1 + 1 + 1 + 1 = omega arith in
+    let e5 : p + 5 ≡ p + 1 + 1 + 1 + 1 + 1 = omega arith in
+    let e6 : p + 6 ≡ p + 1 + 1 + 1 + 1 + 1 + 1 = omega arith in
+    let e7 : p + 7 ≡ p + 1 + 1 + 1 + 1 + 1 + 1 + 1 = omega arith in
+    big_endian (get_or s p 0) (get_or s (p + 1) 0) (get_or s (p + 2) 0) (get_or s (p + 3) 0) (get_or s (p + 4) 0) (get_or s (p + 5) 0) (get_or s (p + 6) 0) (get_or s (p + 7) 0)
+    ∙ rw (e2, e3, e4, e5, e6, e7) refl
 
 pub window_first : (code xs bs : List ℕ) (p : ℕ) → xs ≡ slice_range code p (p + 9) → bs ≡ take 9 xs → Window code p bs
 window_first code xs bs p e f = record { same = λ j l. rw f (get_or-take 9 xs j 0 l ∙ rw e (get_or-between code p (p + 9) j 0 (omega arith))) }

@@ -4,9 +4,8 @@ use mathlib.Core.List.{List, [], ◌∷◌, ◌++◌}
 use Rattle.std.specs.Prelude.{Result, Ok, Err}
 use Prim.Native.Nat.{ℕ, ◌+◌, ◌-◌, ◌*◌, ◌≤◌, ◌<◌}
 use native.Mathlib.Omega.{arith}
-use native.Mathlib.Nat.{add-zero}
-use lib.ListN.{length, take, drop, get_or, set, length-set, get_or-append}
-use lib.Seq.{get_or-set_same, get_or-append-add, get_or-take, length-take-le}
+use lib.ListN.{length, drop, get_or, set, length-set}
+use lib.Seq.{get_or-set_same, get_or-set_other}
 use Rattle.machine.specs.Image as I
 use Rattle.machine.specs.Image.{Constant}
 use Rattle.reader.specs.Says.{Reads, Heads, Tails}
@@ -77,25 +76,47 @@ placing_end s ps₀ ps own count at n p i l h =
       placed = h.placed;
     }
 
--- Six entries from r on make a row.
-abbrev pub row_of : FunctionTemplate → List ℕ
-row_of t = t.param_count ∷ t.local_count ∷ t.constants ∷ t.constant_count ∷ t.at ∷ t.size ∷ []
+-- Six stores make a row.
+module _ (xs : List ℕ) (r : ℕ) (t : FunctionTemplate) where
+  abbrev pub sixed : List ℕ
+  sixed = set (set (set (set (set (set xs r t.param_count) (r + 1) t.local_count) (r + 2) t.constants) (r + 3) t.constant_count) (r + 4) t.at) (r + 5) t.size
 
-entry_of : (xs ys : List ℕ) (r j : ℕ) → r ≤ length xs → get_or (take r xs ++ ys) (r + j) 0 ≡ get_or ys j 0
-entry_of xs ys r j h = rw (length-take-le r xs h) at (get_or-append-add (take r xs) ys j 0)
+past : (xs : List ℕ) (i j v x : ℕ) → (j ≡ i → ⊥) → get_or xs j 0 ≡ x → get_or (set xs i v) j 0 ≡ x
+past xs i j v x h e = get_or-set_other xs i j v 0 h ∙ e
 
-pub row_put : (xs rest : List ℕ) (r : ℕ) (t : FunctionTemplate) → r ≤ length xs → Rowed xs (take r xs ++ (row_of t ++ rest)) r t
-row_put xs rest r t h = record {
-  at0 = rw add-zero at (entry_of xs (row_of t ++ rest) r 0 h);
-  at1 = entry_of xs (row_of t ++ rest) r 1 h;
-  at2 = entry_of xs (row_of t ++ rest) r 2 h;
-  at3 = entry_of xs (row_of t ++ rest) r 3 h;
-  at4 = entry_of xs (row_of t ++ rest) r 4 h;
-  at5 = entry_of xs (row_of t ++ rest) r 5 h;
-  below = record {
-    same = λ j l. get_or-append (take r xs) (row_of t ++ rest) 0 j (rw (length-take-le r xs h) l) ∙ get_or-take r xs j 0 l;
-  };
-}
+pub row_put : (xs : List ℕ) (r : ℕ) (t : FunctionTemplate) → r + 6 ≤ length xs → Rowed xs (sixed xs r t) r t
+row_put xs r t h =
+    let a = t.param_count in
+    let b = t.local_count in
+    let f = t.constants in
+    let n = t.constant_count in
+    let p = t.at in
+    let z = t.size in
+    let x1 = set xs r a in
+    let x2 = set x1 (r + 1) b in
+    let x3 = set x2 (r + 2) f in
+    let x4 = set x3 (r + 3) n in
+    let x5 = set x4 (r + 4) p in
+    let l1 : length x1 ≡ length xs = length-set xs r a in
+    let l2 : length x2 ≡ length xs = length-set x1 (r + 1) b ∙ l1 in
+    let l3 : length x3 ≡ length xs = length-set x2 (r + 2) f ∙ l2 in
+    let l4 : length x4 ≡ length xs = length-set x3 (r + 3) n ∙ l3 in
+    let l5 : length x5 ≡ length xs = length-set x4 (r + 4) p ∙ l4 in
+    record {
+      at0 = past x5 (r + 5) r z a (λ e. omega arith) (past x4 (r + 4) r p a (λ e. omega arith) (past x3 (r + 3) r n a (λ e. omega arith)
+          (past x2 (r + 2) r f a (λ e. omega arith) (past x1 (r + 1) r b a (λ e. omega arith) (get_or-set_same xs r a 0 (omega arith))))));
+      at1 = past x5 (r + 5) (r + 1) z b (λ e. omega arith) (past x4 (r + 4) (r + 1) p b (λ e. omega arith) (past x3 (r + 3) (r + 1) n b (λ e. omega arith)
+          (past x2 (r + 2) (r + 1) f b (λ e. omega arith) (get_or-set_same x1 (r + 1) b 0 (omega arith)))));
+      at2 = past x5 (r + 5) (r + 2) z f (λ e. omega arith) (past x4 (r + 4) (r + 2) p f (λ e. omega arith) (past x3 (r + 3) (r + 2) n f (λ e. omega arith)
+          (get_or-set_same x2 (r + 2) f 0 (omega arith))));
+      at3 = past x5 (r + 5) (r + 3) z n (λ e. omega arith) (past x4 (r + 4) (r + 3) p n (λ e. omega arith) (get_or-set_same x3 (r + 3) n 0 (omega arith)));
+      at4 = past x5 (r + 5) (r + 4) z p (λ e. omega arith) (get_or-set_same x4 (r + 4) p 0 (omega arith));
+      at5 = get_or-set_same x5 (r + 5) z 0 (omega arith);
+      below = record {
+        same = λ j l. past x5 (r + 5) j z _ (λ e. omega arith) (past x4 (r + 4) j p _ (λ e. omega arith) (past x3 (r + 3) j n _ (λ e. omega arith)
+            (past x2 (r + 2) j f _ (λ e. omega arith) (past x1 (r + 1) j b _ (λ e. omega arith) (get_or-set_other xs r j a 0 (λ e. omega arith))))));
+      };
+    }
 
 -- A template from its parts, in any lines that agree with its row.
 template_is : (code places rows rows' lines : List ℕ) (r : ℕ) (t : FunctionTemplate) → Rowed rows rows' r t → Same (r + 8) rows' lines

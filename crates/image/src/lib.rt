@@ -5,9 +5,10 @@
 ghost use Rattle.std.specs.Prelude.{◌≡◌, List, [], ℕ, ◌+◌, ◌≤◌, ◌<◌, length, get_or, MatchOption};
 ghost use Rattle.std.proofs.Math.Option.{some};
 ghost use Rattle.std.proofs.Math.ListN.{get_elem?};
+ghost use Rattle.std.proofs.Math.Seq.{paste};
 ghost use Rattle.machine.specs.State.{no_template, limit, code_store};
 ghost use Rattle.reader.specs.Constants.{constant_of};
-ghost use Rattle.image.specs.View.{Window, constant_at, constants_of, images_of};
+ghost use Rattle.image.specs.View.{Window, word_at, wide_at, constant_at, constants_of, images_of};
 ghost use Rattle.image.specs.Fills.{Fills, FillsOne, FillsAll, FillsImage};
 ghost use Rattle.image.specs.Near.{Nears};
 ghost use Rattle.image.specs.Load.{sizes_listed, Loads, Fitting, AppendSays, space_of, space_refusal, template_from, found_of};
@@ -79,14 +80,12 @@ fn fill_template(
     let first = reader.at();
     fill_constants(reader, places, head.constant_count, own, count)?;
     let tail = reader.tail()?;
-    rows[r..r + 6].copy_from_slice(&[
-        head.param_count,
-        head.local_count,
-        first as u16,
-        head.constant_count,
-        tail.at as u16,
-        tail.size,
-    ]);
+    rows[r] = head.param_count;
+    rows[r + 1] = head.local_count;
+    rows[r + 2] = first as u16;
+    rows[r + 3] = head.constant_count;
+    rows[r + 4] = tail.at as u16;
+    rows[r + 5] = tail.size;
     Ok(())
 }
 
@@ -120,6 +119,16 @@ fn fill_image(s: &[u8], places: &mut [u16], rows: &mut [u16], at: usize) -> Resu
     fill_templates(&mut reader, places, rows, u64::from(count))
 }
 
+// The image's bytes, behind those that are there.
+fn copy(code: &mut [u8], at: usize, image: &[u8])
+    requires { at + length image.now ≤ length code.old }
+    ensures { code.new ≡ paste code.old at image.now (length image.now) }
+{
+    for i in 0..image.len() {
+        code[at + i] = image[i];
+    }
+}
+
 // Questions 8 and 9.
 fn ask_space(counts: ImageCounts, n: usize) -> Result<(), LoadError>
     ensures { space_of result ≡ space_refusal counts n }
@@ -151,7 +160,7 @@ fn append(
     let at = counts.code;
     let i = counts.images;
     let end = at + image.len();
-    code[at..end].copy_from_slice(image);
+    copy(code, at, image);
     fill_image(&code[..end], places, rows, at)?;
     starts[i] = at as u16;
     let next = ImageCounts {
@@ -260,12 +269,64 @@ fn constant_in(bytes: &[u8; 9], p: usize) -> Constant
     }
 }
 
-// Nine bytes of the code, 0 past its end.
-fn nine_at(code: &[u8], p: usize) -> [u8; 9]
-    requires { p < 65536 }
-    ensures { Window code.now p result }
+// A byte of the code, or 0 past its end.
+fn byte_of(code: &[u8], p: usize) -> u8
+    ensures { result ≡ get_or code.now p 0 }
 {
-    std::array::from_fn(|i| code.get(p + i).copied().unwrap_or(0))
+    code.get(p).copied().unwrap_or(0)
+}
+
+// Two bytes.
+fn word_of(code: &[u8], p: usize) -> u64
+    requires { p < 65600 }
+    ensures { result ≡ word_at code.now p }
+{
+    u64::from(u16::from_be_bytes([byte_of(code, p), byte_of(code, p + 1)]))
+}
+
+// Eight bytes. Where all are there, they make one load.
+fn long_of(code: &[u8], p: usize) -> u64
+    requires { p < 65600 }
+    ensures { result ≡ wide_at code.now 8 0 p }
+{
+    if p + 8 <= code.len() {
+        return u64::from_be_bytes([
+            code[p],
+            code[p + 1],
+            code[p + 2],
+            code[p + 3],
+            code[p + 4],
+            code[p + 5],
+            code[p + 6],
+            code[p + 7],
+        ]);
+    }
+    u64::from_be_bytes([
+        byte_of(code, p),
+        byte_of(code, p + 1),
+        byte_of(code, p + 2),
+        byte_of(code, p + 3),
+        byte_of(code, p + 4),
+        byte_of(code, p + 5),
+        byte_of(code, p + 6),
+        byte_of(code, p + 7),
+    ])
+}
+
+// The constant whose kind stands at place p of the code, of the bytes that its kind has.
+fn held(code: &[u8], p: usize) -> Constant
+    requires { p < 65536 }
+    ensures { constant_of result ≡ constant_at code.now p }
+{
+    match byte_of(code, p) {
+        0 => Constant::Number(long_of(code, p + 1)),
+        1 => Constant::Str((p + 3) as u64, word_of(code, p + 1)),
+        2 => Constant::Bool(byte_of(code, p + 1) == 1),
+        3 => Constant::Null,
+        4 => Constant::Undefined,
+        5 => Constant::Function(word_of(code, p + 1)),
+        _ => Constant::Undefined,
+    }
 }
 
 // Constant k of a template.
@@ -273,7 +334,7 @@ pub fn constant_at(code: &[u8], places: &[u16], t: FunctionTemplate, k: usize) -
     ensures { found_of result ≡ get_elem? (constants_of code.now places.now t.constants t.constant_count) k }
 {
     let p = place_of(places, t, k)?;
-    Some(constant_in(&nine_at(code, p), p))
+    Some(held(code, p))
 }
 
 // Constant k of a template, the quick way: where nine bytes are there. `None` says nothing of the constant.

@@ -1,7 +1,7 @@
 -- Text to number: readings as the machine has them, and what the rest of a text makes of each stage. Assumes nothing.
-use Rattle.std.specs.Prelude.{◌≡◌, ℕ, suc, ◌+◌, ◌-◌, ◌*◌, ◌<◌, ◌≤◌, Bool, true, false, ◌&&◌, List, [], ◌∷◌, length, drop, ◌==◌, ◌≢◌, slice_index, refl, if◌then◌else◌}
+use Rattle.std.specs.Prelude.{◌≡◌, ℕ, suc, ◌+◌, ◌-◌, ◌*◌, ◌<◌, ◌≤◌, Bool, true, false, ◌&&◌, List, [], ◌∷◌, length, take, drop, ◌==◌, ◌≢◌, slice_index, refl, if◌then◌else◌}
 use Rattle.std.specs.List.{list_all, prefix_len}
-use Rattle.std.proofs.Common.{sym, ap, ◌∙◌, arith, add-one, one-add, drop_of_length-le, drop-cons, ne_eqb}
+use Rattle.std.proofs.Common.{sym, ap, ◌∙◌, arith, add-one, one-add, drop_of_length-le, length-drop, drop-cons, take_all, ne_eqb}
 use Rattle.std.proofs.lemmas.List.{nil_from_length}
 use Rattle.machine.specs.Number as N
 use Rattle.machine.specs.Reading as R
@@ -114,3 +114,8 @@ module _ (s : List ℕ) (minus : Bool) (n worth k : ℕ) (u : Underway s minus n
 
   pub underway_other : k < length s → N.is_digit b ≡ false → N.is_blank b ≡ false → R.invalid ≡ R.resume (R.digits minus n) s
   underway_other h d e = sym (at_other false e d h ∙ invalid_stays (drop (suc k) s))
+
+-- The rest of a text, lent as a part of it
+
+pub rest_of : (s : List ℕ) (a : ℕ) → take (length s - a) (drop a s) ≡ drop a s
+rest_of s a = take_all (length s - a) (drop a s) (omega (arith, length-drop a s))

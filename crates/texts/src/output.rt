@@ -117,8 +117,9 @@ pub fn write_bytes(bytes: &[u8], buffer: &mut [u8]) -> Option<usize>
 pub fn write_text(texts: &Texts, v: Value, buffer: &mut [u8]) -> Option<usize>
     ensures { Writes (to_js_string texts.now (value_of v)) buffer.old result buffer.new }
 {
-    if buffer.len() < size_of_value(texts, v) {
+    let spelling = Spelling::of(v);
+    if buffer.len() < spelling.size(texts) {
         return None;
     }
-    Some(write_value(texts, v, buffer, 0))
+    Some(spelling.write(texts, buffer, 0))
 }

@@ -1,7 +1,8 @@
 -- How an accepted call comes to its contract. Assumes nothing.
-use Rattle.std.specs.Prelude.{◌≡◌, refl, Bool, true, false, ◌&&◌, List, [], ◌∷◌, ◌++◌, ℕ, ◌+◌, ◌-◌, ◌/◌, ◌%◌, ◌≤◌, ◌<◌, length, slice_index, Ok}
-use Rattle.std.proofs.Common.{sym, ap, ap₂, ◌∙◌, arith, length-append, le-leb}
+use Rattle.std.specs.Prelude.{◌≡◌, refl, Bool, true, false, ◌&&◌, List, [], ◌∷◌, ◌++◌, ℕ, ◌+◌, ◌-◌, ◌/◌, ◌%◌, ◌≤◌, ◌<◌, length, slice_index, set, Ok}
+use Rattle.std.proofs.Common.{sym, ap, ap₂, ◌∙◌, arith, add-one, length-append, le-leb}
 use Rattle.std.proofs.Math.Option.{none}
+use Rattle.std.proofs.lemmas.List.Edits.{sets-eq}
 use Rattle.std.proofs.lemmas.Nat.{shr-shr}
 use Rattle.std.specs.Int.{w16, w64, to_be_bytes, from_bool}
 use Rattle.machine.specs.Host.{ask}
@@ -94,6 +95,12 @@ word_bytes n m bs (h, e) eb =
     let high : n / 256 ≡ n / 256 % 256 = omega arith in
     ap (λ (x : ℕ). x ∷ n % 256 ∷ []) high ∙ ap (to_be_bytes w16) (sym e) ∙ sym eb
 
+pub word_put : (b bs : List ℕ) (at n : ℕ) → at + 2 ≤ length b → n < 65536 → bs ≡ to_be_bytes w16 n → set (set b at (slice_index bs 0)) (at + 1) (slice_index bs 1) ≡ overwrite b at (word n)
+unfolding overwrite
+word_put b bs at n h l e =
+    let w : bs ≡ word n = sym (word_bytes n n bs (l, refl) e) in
+    ap (λ (x : List ℕ). set (set b at (slice_index x 0)) (at + 1) (slice_index x 1)) w ∙ ap (λ (k : ℕ). set (set b at (n / 256)) k (n % 256)) (add-one at) ∙ sets-eq (word n) b at h
+
 pub function_bytes : (t n : ℕ) (bs : List ℕ) → (t < 65536) × (n ≡ t) → bs ≡ to_be_bytes w16 n → F.constant_bytes (F.function t) ≡ 5 ∷ bs
 function_bytes t n bs h e = ap (λ (x : List ℕ). 5 ∷ x) (word_bytes t n bs h e)
 
@@ -101,6 +108,13 @@ pub text_bytes : (ts bs : List ℕ) (n : ℕ) → (length ts < 65536) × (n ≡ 
 text_bytes ts bs n h e =
     let w : word (length ts) ≡ bs = word_bytes (length ts) n bs h e in
     ap (λ (x : List ℕ). (1 ∷ slice_index x 0 ∷ slice_index x 1 ∷ []) ++ ts) w
+
+-- by the halves of the number or of the length, also where it has more than two bytes
+pub function_halves : (t h l : ℕ) → h ≡ t / 256 → l ≡ t % 256 → F.constant_bytes (F.function t) ≡ (5 ∷ h ∷ l ∷ []) ++ []
+function_halves t h l eh el = rw (eh, el)
+
+pub text_halves : (bs : List ℕ) (h l : ℕ) → h ≡ length bs / 256 → l ≡ length bs % 256 → F.constant_bytes (F.text bs) ≡ (1 ∷ h ∷ l ∷ []) ++ bs
+text_halves bs h l eh el = rw (eh, el)
 
 pub boolean_bytes : (b : Bool) (n : ℕ) → n ≡ from_bool b → F.constant_bytes (F.boolean b) ≡ 2 ∷ n ∷ []
 boolean_bytes true n e = ap (λ (x : ℕ). 2 ∷ x ∷ []) (sym e)

@@ -102,7 +102,9 @@ fn put_word(buffer: &mut [u8], at: usize, n: u16)
     requires { at + 2 ≤ length buffer.old }
     ensures { buffer.new ≡ overwrite buffer.old at (F.word n) }
 {
-    copy(buffer, at, &n.to_be_bytes());
+    let [high, low] = n.to_be_bytes();
+    buffer[at] = high;
+    buffer[at + 1] = low;
 }
 
 impl Writer {

@@ -8,4 +8,4 @@ returns-in_err-p c = let a = c.args in
 
 pub returns : goal.returns
 returns c = let a = c.args in let h = c.in_ok-p.ensures in
-    sym (constant_is a.code.now a.places.now a.t.constants a.t.constant_count a.k h.0 ∙ rw (← h.1, c.constant_in.ensures a.code.now c.nine_at.ensures))
+    sym (constant_is a.code.now a.places.now a.t.constants a.t.constant_count a.k h.0 ∙ rw (← h.1, c.held.ensures))

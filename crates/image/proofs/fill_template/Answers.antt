@@ -15,4 +15,5 @@ pub returns-clause-fills : goal.returns-clause-fills
 returns-clause-fills c = let a = c.args in
     let g = rw c.in_ok-head.ensures.src at c.in_ok-fill_constants.ensures.fills in
     let t = rw (c.in_ok-fill_constants.ensures.src ∙ c.in_ok-head.ensures.src) at c.in_ok-tail.ensures.tailed in
-    rw (c.copy_from_slice.ensures.after, c.at-first.ensures) (fill_one c.in_ok-head.ensures.headed g t (row_put a.rows.now _ a.r _ (omega arith)))
+    let h = c.in_ok-head.ensures.headed in
+    rw c.at-first.ensures (fill_one h g t (row_put a.rows.now a.r _ (omega (arith, h.on, g.room, t.on, t.second.inside))))

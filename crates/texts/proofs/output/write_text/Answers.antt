@@ -1,8 +1,6 @@
 use native.Mathlib.Omega.{arith}
-use Rattle.machine.specs.Convert.{to_js_string}
-use Rattle.value.specs.Words.{value_of}
-use Rattle.texts.specs.Spells.{writes_sized}
+use Rattle.texts.specs.Spells.{spelling_bytes, writes_sized, writes_as}
 use Rattle.texts.proofs.output.write_text.Goals as goal
 
 pub returns : goal.returns
-returns c = writes_sized (to_js_string c.args.texts.now (value_of c.args.v)) c.args.buffer.now _ _ (omega (arith, c.write_value.ensures.place)) (omega (arith, c.write_value.ensures.place)) c.write_value.ensures.bytes
+returns c = writes_as (c.of-spelling.ensures.bytes c.args.texts.now) (writes_sized (spelling_bytes c.args.texts.now c.of-spelling.result) c.args.buffer.now _ _ (omega (arith, c.write.ensures.place)) (omega (arith, c.write.ensures.place, c.size.ensures)) c.write.ensures.bytes)
