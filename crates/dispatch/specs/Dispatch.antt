@@ -74,6 +74,10 @@ module _ {H : St.State → Type 0} {x : Running} {p : Program} {d : Depths} {w w
   pub by_any : Meets Any p d w r w' → Dispatches H x p d w r w'
   by_any m = record { goes = λ s h. m.goes s tt; kept = kept_by x r.how r.depths w w' m.kept }
 
+  -- the program is another's
+  pub by_program : {q : Program} → p ≡ q → Dispatches H x q d w r w' → Dispatches H x p d w r w'
+  by_program {q} e m = subst (λ (k : Program). Dispatches H x k d w r w') (sym e) m
+
 pub by_more : {H : St.State → Type 0} {x : Running} {op : Deferred} {d : Depths} {w : List ℕ} {r : Stepped} → View.Ready d w → Runs x d w → r ≡ stepped d (More op)
     → Dispatches H x (deferred op) d w r w
 by_more {H} {x} {op} {d} {w} a q e = subst (λ (y : Stepped). Dispatches H x (deferred op) d w y w) (sym e) (record { goes = λ s h. refl; kept = (refl, a, q) })

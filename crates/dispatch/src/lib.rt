@@ -2,6 +2,7 @@
 #![tactic(auto)]
 
 ghost use Rattle.std.specs.Prelude.{◌≡◌, ◌≤◌, length};
+ghost use Rattle.machine.specs.Instruction.{instruction};
 ghost use Rattle.stacks.specs.View.{Ready};
 ghost use Rattle.fetch.specs.Running.{Runs};
 ghost use Rattle.opcode.specs.Programs.{instruction_of};
@@ -11,7 +12,7 @@ ghost use Rattle.dispatch.specs.Dispatch.{Dispatches, Steps, Held};
 
 use fetch::Running;
 use opcode::{Change, Deferred, Lookup, Opcode};
-use outcome::{Part, Stepped, failed, left_to_do, went};
+use outcome::{Part, Stepped, left_to_do, went};
 use readops::constants;
 use stackops::operators::{
     BitAnd, BitOr, BitXor, Div, Gt, GtEq, Lt, LtEq, Mod, Mul, ShiftLeft, ShiftRight, Sub,
@@ -19,7 +20,6 @@ use stackops::operators::{
 use stackops::{arithmetic, comparison, control, locals};
 use stacks::Depths;
 use texts::Texts;
-use value::JsVmError;
 
 // Left whole.
 fn defer(op: Deferred, d: Depths) -> Stepped
@@ -29,7 +29,7 @@ fn defer(op: Deferred, d: Depths) -> Stepped
 }
 
 // The instructions on the stacks that are run most, in one place; the others are left whole to `finish`.
-pub fn execute(
+pub fn execute_opcode(
     op: Opcode,
     x: Running,
     d: Depths,
@@ -96,6 +96,28 @@ pub fn execute(
     }
 }
 
+// The instruction of a byte; one that names none is left to `finish` too.
+pub fn execute(
+    op: u8,
+    x: Running,
+    d: Depths,
+    code: &[u8],
+    n: usize,
+    places: &[u16],
+    stacks: &mut [u64],
+    texts: &Texts,
+) -> Stepped
+    requires ready { Ready d stacks.old }
+    requires runs { Runs x d stacks.old }
+    requires n_in_bounds { n ≤ length code.now }
+    ensures { Dispatches (Held x n code.now places.now texts.now) x (instruction op) d stacks.old result stacks.new }
+{
+    match Opcode::from_byte(op) {
+        Some(op) => execute_opcode(op, x, d, code, n, places, stacks, texts),
+        None => defer(Deferred::Unknown(op), d),
+    }
+}
+
 // A step, as far as it is one on the stacks.
 pub fn step(
     x: Running,
@@ -114,11 +136,8 @@ pub fn step(
     if d.frames == 0 {
         return control::halt(d, stacks);
     }
-    let Some((b, e)) = fetch::fetch(x, d, code, n) else {
+    let Some((op, e)) = fetch::fetch(x, d, code, n) else {
         return went(d.pop_frame(stacks));
     };
-    match Opcode::from_byte(b as u8) {
-        Some(op) => execute(op, x, e, code, n, places, stacks, texts),
-        None => failed(JsVmError::UnknownOpcode(b as u8), e),
-    }
+    execute(op as u8, x, e, code, n, places, stacks, texts)
 }

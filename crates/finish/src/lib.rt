@@ -1,4 +1,4 @@
-//! What an instruction leaves to do with the other stores, and the instructions that the dispatcher leaves whole.
+//! What an instruction leaves to do with the other stores, and what the dispatcher leaves whole.
 #![tactic(auto)]
 
 ghost use Rattle.std.specs.Prelude.{◌≡◌, ℕ, ◌≤◌, List, length};
@@ -16,6 +16,7 @@ use opcode::{Change, Deferred, Lookup};
 use outcome::{Part, Stepped};
 use readops::{call, constants, lookups};
 use texts::Texts;
+use value::JsVmError;
 
 // Whatever an instruction does, the code and the images stay.
 fn steady(c: Counts, t: Turned) -> Turned
@@ -142,6 +143,7 @@ pub fn execute_more(
             complete(r, c, code, stacks, heap, text, output)
         }
         Deferred::Change(op) => change(op, x, c, code, places, stacks, heap, text),
+        Deferred::Unknown(b) => heapops::failed(c, c.depths, JsVmError::UnknownOpcode(b)),
     }
 }
 

@@ -81,6 +81,7 @@ changing Write.Typeof = I.Typeof
 abbrev pub deferred : Deferred → Program
 deferred (Left.Lookup op) = looking_up op
 deferred (Left.Change op) = changing op
+deferred (Left.Unknown b) = end (failed (unknown_opcode b))
 
 -- Question 13: the byte has the instruction's program, or that of a byte that names none.
 abbrev pub Decodes : ℕ → Option Opcode → Type 0

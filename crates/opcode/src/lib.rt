@@ -57,11 +57,12 @@ pub enum Opcode {
     Halt,
 }
 
-/// An instruction that the dispatcher leaves whole, since it does with more than the stacks.
+/// What the dispatcher leaves whole: an instruction that does with more than the stacks, or a byte that names none.
 #[derive(Clone, Copy, Debug, PartialEq, Eq)]
 pub enum Deferred {
     Lookup(Lookup),
     Change(Change),
+    Unknown(u8),
 }
 
 /// These read other stores, and change the stacks alone.

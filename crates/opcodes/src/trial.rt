@@ -1,12 +1,12 @@
 //! An instruction's own code, tried: one frame with some operand bytes left, and some operands.
 ghost use Rattle.std.specs.Prelude.{◌≡◌, if◌then◌else◌, eqb, ◌≤◌, length};
+ghost use Rattle.machine.specs.Instruction.{instruction};
 ghost use Rattle.machine.specs.Opcodes.{attempt_for};
 ghost use Rattle.stacks.specs.Layout.{stack_words};
 ghost use Rattle.stacks.specs.View.{Ready};
 ghost use Rattle.texts.specs.Keeps.{text_limit, output_limit};
 ghost use Rattle.heap.specs.View.{Sized};
 ghost use Rattle.fetch.specs.Running.{Runs};
-ghost use Rattle.opcode.specs.Programs.{instruction_of};
 ghost use Rattle.heapops.specs.Turns.{Turns, mem};
 ghost use Rattle.finish.specs.Parts.{Ground, tables};
 ghost use Rattle.opcodes.specs.Trials.{Objects, Tells, attempt_by, attempted_as};
@@ -14,7 +14,6 @@ ghost use Rattle.opcodes.specs.Trials.{Objects, Tells, attempt_by, attempted_as}
 use fetch::Running;
 use heap::{HEAP_WORDS, Sizes};
 use heapops::{Counts, How, Turned};
-use opcode::Opcode;
 use stacks::{Depths, STACK_WORDS};
 use texts::{OUTPUT_LIMIT, TEXT_LIMIT, Texts};
 use value::Value;
@@ -38,7 +37,7 @@ fn place_operands(stacks: &mut [u64])
 
 // The instruction as a run makes it, from the place behind its opcode.
 fn perform(
-    op: Opcode,
+    op: u8,
     x: Running,
     c: Counts,
     code: &[u8],
@@ -56,7 +55,7 @@ fn perform(
     requires sized { Sized c.sizes heap.old }
     requires text_le_text_limit { (c.text ≤ text_limit) × (length text.old ≡ text_limit) }
     requires output_le_output_limit { (c.output ≤ output_limit) × (length output.old ≡ output_limit) }
-    ensures { Turns (Ground x c (tables code.now places.now rows.now starts.now)) (instruction_of op) c (mem stacks.old heap.old text.old output.old) result (mem stacks.new heap.new text.new output.new) }
+    ensures { Turns (Ground x c (tables code.now places.now rows.now starts.now)) (instruction op) c (mem stacks.old heap.old text.old output.old) result (mem stacks.new heap.new text.new output.new) }
 {
     let texts = Texts::new(code, c.code, text, c.text);
     let r = dispatch::execute(op, x, c.depths, code, c.code, places, stacks, &texts);
@@ -103,9 +102,6 @@ pub fn attempt_of(
     requires { (n ≤ 2) × (m ≤ 4) }
     ensures { attempt_by result ≡ attempt_for op b n m }
 {
-    let Some(op) = Opcode::from_byte(op) else {
-        return came(13, 0);
-    };
     let code: [u8; 2] = [b, b];
     let places: [u16; 1] = [0];
     let rows: [u16; 8] = [1, 0, 0, 0, 0, 0, 0, n];

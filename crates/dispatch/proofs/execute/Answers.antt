@@ -1,11 +1,9 @@
-use Rattle.dispatch.specs.Dispatch.{by_meets, by_any, to_coded_text}
+use Rattle.opcode.specs.declared.Deferred.TheVariants.{Unknown}
+use Rattle.dispatch.specs.Dispatch.{by_program, by_more}
 use Rattle.dispatch.proofs.execute.Goals as goal
 
-pub returns-in-JumpIfFalse : goal.returns-in-JumpIfFalse
-returns-in-JumpIfFalse c = rw c.in-JumpIfFalse.is (by_meets to_coded_text c.jump_if.ensures)
+pub returns-in-Some : goal.returns-in-Some
+returns-in-Some c = by_program (rw c.in-Some.is at c.from_byte.ensures) c.execute_opcode.ensures
 
-pub returns-in-JumpIfTrue : goal.returns-in-JumpIfTrue
-returns-in-JumpIfTrue c = rw c.in-JumpIfTrue.is (by_meets to_coded_text c.jump_if-in-JumpIfTrue.ensures)
-
-pub returns-in-LeaveTry : goal.returns-in-LeaveTry
-returns-in-LeaveTry c = rw c.in-LeaveTry.is (by_any (c.leave_try.ensures c.args.stacks.now))
+pub returns-in-None : goal.returns-in-None
+returns-in-None c = by_program (rw c.in-None.is at c.from_byte.ensures) (by_more {op = Unknown c.args.op} c.requires.ready c.requires.runs c.defer.ensures)
