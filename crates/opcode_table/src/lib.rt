@@ -7,7 +7,7 @@ ghost use Rattle.std.specs.Prelude.{◌≡◌};
 ghost use Rattle.machine.specs.Opcodes.{row_for};
 ghost use Rattle.opcode_table.specs.Rows.{row_by};
 
-use table::{OPCODES, UNKNOWN};
+use table::OPCODES;
 
 #[repr(C)]
 #[derive(Clone, Copy)]
@@ -21,10 +21,17 @@ pub struct Row {
 pub fn opcode(b: u64) -> Row
     ensures { row_by result ≡ row_for b }
 {
-    let [bytes, taken, pushed] = OPCODES.get(b as usize).copied().unwrap_or(UNKNOWN);
+    if b > 255 {
+        return Row {
+            bytes: 255,
+            taken: 255,
+            pushed: 255,
+        };
+    }
+    let k = 3 * (b as usize);
     Row {
-        bytes: u64::from(bytes),
-        taken: u64::from(taken),
-        pushed: u64::from(pushed),
+        bytes: OPCODES[k] as u64,
+        taken: OPCODES[k + 1] as u64,
+        pushed: OPCODES[k + 2] as u64,
     }
 }
