@@ -1,2 +1,3 @@
+pub mod Truth
 pub mod Shows
 pub mod Keys

@@ -1,9 +1,10 @@
 //! What a value is as a boolean and as a number, when two are equal, and what an array takes for a key: the methods of document 000's `JsValue`.
 #![tactic(auto)]
 
-ghost use Rattle.std.specs.Prelude.{◌≡◌, ◌-◌, ◌≤◌};
+ghost use Rattle.std.specs.Prelude.{◌≡◌, ◌-◌, ◌≤◌, length};
 ghost use Rattle.machine.specs.Convert.{to_boolean, to_number, strict_eq, abstract_eq, loose_seen, see, digits_key, array_key, length_floor};
 ghost use Rattle.value.specs.Words.{value_of};
+ghost use Rattle.convert.specs.Truth.{Truth};
 ghost use Rattle.convert.specs.Shows.{seen_of};
 ghost use Rattle.convert.specs.Keys.{key_of};
 
@@ -13,7 +14,8 @@ use value::Value;
 
 // No byte of a text is read: its length says enough.
 pub fn to_boolean(texts: &Texts, v: Value) -> bool
-    ensures { result ≡ to_boolean texts.now (value_of v) }
+    ensures bytes { result ≡ to_boolean texts.now (value_of v) }
+    ensures lengths { Truth (length texts.now.code) (length texts.now.text) (value_of v) result }
 {
     match v {
         Value::Undefined | Value::Null => false,

@@ -1,14 +1,13 @@
 //! What stands on the heap, read.
-ghost use Rattle.std.specs.Prelude.{◌≡◌};
+ghost use Rattle.std.specs.Prelude.{◌≡◌, ℕ, List, length};
 ghost use Rattle.std.proofs.Math.ListN.{get_elem?};
 ghost use Rattle.machine.specs.State.{property_in};
 ghost use Rattle.machine.specs.Instruction.{get_property};
 ghost use Rattle.value.specs.Words.{value_of};
 ghost use Rattle.heap.specs.View.{Sized, held_in, function_in, kind_in};
-ghost use Rattle.heap.specs.Finds.{global_in, length_of};
+ghost use Rattle.heap.specs.Finds.{global_in, length_of, stores};
 
-use crate::rows::{find_global, find_property};
-use crate::{GLOBALS_AT, OBJECTS_AT, ObjectType, PROPERTIES_AT, Registered, Sizes};
+use crate::{OBJECTS_AT, ObjectType, Registered, Sizes, rows};
 use number::JsNumber;
 use std::marker::Model;
 use texts::{Texts, equal_bytes};
@@ -78,30 +77,27 @@ impl<'a> Heap<'a> {
     pub fn property(&self, texts: &Texts, owner: u64, key: &[u8]) -> Value
         ensures { value_of result ≡ property_in texts.now self.now.properties owner key.now }
     {
-        match find_property(texts.text(), self.words, self.sizes.properties, owner, key) {
-            Some(i) => value::read(self.words, PROPERTIES_AT + 6 * i + 3),
-            None => Value::Undefined,
-        }
+        rows::property(texts.text(), self.words, self.sizes.properties, owner, key)
     }
 
     /// The value of a global, or Undefined.
     pub fn global(&self, texts: &Texts, name: &[u8]) -> Value
         ensures { value_of result ≡ global_in texts.now self.now.globals name.now }
     {
-        match find_global(texts.text(), self.words, self.sizes.globals, name) {
-            Some(i) => value::read(self.words, GLOBALS_AT + 6 * i + 3),
-            None => Value::Undefined,
-        }
+        rows::global(texts.text(), self.words, self.sizes.globals, name)
     }
 
-    /// A property of any value: of a text its length, of a known object what it has.
+    /// A property of any value: of a text its length, of a known object what it has. Of the code only the length matters.
     pub fn get_property(&self, texts: &Texts, v: Value, key: &[u8]) -> Value
-        ensures { value_of result ≡ get_property texts.now self.now.objects self.now.properties (value_of v) key.now }
+        ensures bytes { value_of result ≡ get_property texts.now self.now.objects self.now.properties (value_of v) key.now }
+        ensures lengths { (c : List ℕ) → length c ≡ length texts.now.code → value_of result ≡ get_property (stores c texts.now.text) self.now.objects self.now.properties (value_of v) key.now }
     {
         match v {
             Value::CodeText(at, size) => text_property(texts.code_text(at, size).len(), key),
             Value::MadeText(at, size) => text_property(texts.made_text(at, size).len(), key),
-            Value::Object(id) if id < self.sizes.objects as u64 => self.property(texts, id, key),
+            Value::Object(id) if id < self.sizes.objects as u64 => {
+                rows::property(texts.text(), self.words, self.sizes.properties, id, key)
+            }
             _ => Value::Undefined,
         }
     }

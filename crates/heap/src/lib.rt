@@ -10,7 +10,7 @@ pub mod held;
 pub mod rows;
 
 pub use held::Heap;
-pub use rows::{find_global, find_property};
+pub use rows::{find_global, find_property, global, property};
 use value::{Space, Value};
 
 // The limits of document 01, and where each store begins: a function has 2 words, an object 1, a property and a global 6.

@@ -1,6 +1,8 @@
 //! Arithmetic and bits on two operands as numbers, negation and `!`. Add, which may join texts, is not here.
+ghost use Rattle.machine.specs.State.{Bytes};
 ghost use Rattle.machine.specs.Instruction.{arithmetic, Neg, Not};
 ghost use Rattle.stacks.specs.View.{Ready};
+ghost use Rattle.texts.specs.Lengths.{SameLengths};
 ghost use Rattle.outcome.specs.Meets.{Meets};
 ghost use Rattle.fetch.specs.Running.{Holding};
 ghost use Rattle.stackops.specs.Numbers.{PairsNumbers};
@@ -46,9 +48,11 @@ pub fn neg(d: Depths, texts: &Texts, stacks: &mut [u64]) -> Stepped
     push_value(e, stacks, Value::Number((-a).bits))
 }
 
+// Only the lengths of the texts matter, here and where a truth is asked for.
 pub fn not(d: Depths, texts: &Texts, stacks: &mut [u64]) -> Stepped
     requires { Ready d stacks.old }
-    ensures { Meets (Holding texts.now) Not d stacks.old result stacks.new }
+    ensures bytes { Meets (Holding texts.now) Not d stacks.old result stacks.new }
+    ensures lengths { (b : Bytes) → SameLengths b texts.now → Meets (Holding b) Not d stacks.old result stacks.new }
 {
     let Some((v, e)) = d.pop(stacks) else {
         return underflow(d);

@@ -1,6 +1,8 @@
 //! Comparisons, and the two logical instructions, which pop both operands whatever the first one is.
+ghost use Rattle.machine.specs.State.{Bytes};
 ghost use Rattle.machine.specs.Instruction.{comparison, In};
 ghost use Rattle.stacks.specs.View.{Ready};
+ghost use Rattle.texts.specs.Lengths.{SameLengths};
 ghost use Rattle.outcome.specs.Meets.{Meets, Any};
 ghost use Rattle.fetch.specs.Running.{Holding};
 ghost use Rattle.stackops.specs.Values.{Equals, Logical};
@@ -46,7 +48,8 @@ pub fn compare<O: Comparison>(d: Depths, texts: &Texts, stacks: &mut [u64]) -> S
 /// LogicalAnd and LogicalOr: the newer operand where the truth of the older one is `TRUTH`, else the older one.
 pub fn logical<const TRUTH: bool>(d: Depths, texts: &Texts, stacks: &mut [u64]) -> Stepped
     requires { Ready d stacks.old }
-    ensures { Meets (Holding texts.now) (Logical TRUTH) d stacks.old result stacks.new }
+    ensures bytes { Meets (Holding texts.now) (Logical TRUTH) d stacks.old result stacks.new }
+    ensures lengths { (b : Bytes) → SameLengths b texts.now → Meets (Holding b) (Logical TRUTH) d stacks.old result stacks.new }
 {
     let Some((a, b, e)) = pop_two(d, stacks) else {
         return underflow(d);

@@ -1,7 +1,9 @@
 //! Jumps, returns, tries and the end of a run.
 ghost use Rattle.std.specs.Prelude.{List, ℕ, ◌≤◌, length};
+ghost use Rattle.machine.specs.State.{Bytes};
 ghost use Rattle.machine.specs.Instruction.{Jump, Return, Throw, EnterTry, LeaveTry, Halt};
 ghost use Rattle.stacks.specs.View.{Ready};
+ghost use Rattle.texts.specs.Lengths.{SameLengths};
 ghost use Rattle.outcome.specs.Meets.{Meets, Any};
 ghost use Rattle.fetch.specs.Running.{Runs, Coded, CodedText};
 ghost use Rattle.stackops.specs.Control.{JumpIf};
@@ -34,7 +36,8 @@ pub fn jump_if<const TRUTH: bool>(
     requires ready { Ready d stacks.now }
     requires runs { Runs x d stacks.now }
     requires n_in_bounds { n ≤ length code.now }
-    ensures { Meets (CodedText x n code.now texts.now) (JumpIf TRUTH) d stacks.now result stacks.now }
+    ensures bytes { Meets (CodedText x n code.now texts.now) (JumpIf TRUTH) d stacks.now result stacks.now }
+    ensures lengths { (b : Bytes) → SameLengths b texts.now → Meets (CodedText x n code.now b) (JumpIf TRUTH) d stacks.now result stacks.now }
 {
     let Some((p, e)) = fetch_word(x, d, code, n) else {
         return cut_short(x, d);

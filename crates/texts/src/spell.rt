@@ -7,7 +7,7 @@ ghost use Rattle.number.specs.Layout.{Wrote};
 ghost use Rattle.value.specs.Words.{value_of};
 ghost use Rattle.texts.specs.Sources.{InUse, stores_of};
 ghost use Rattle.texts.specs.Overwrite.{overwrite};
-ghost use Rattle.texts.specs.Spells.{laid_out, spelling_bytes, Says, Spells};
+ghost use Rattle.texts.specs.Spells.{laid_out, spelling_bytes, Says, Sized, Spells};
 ghost use Rattle.texts.specs.Keeps.{text_limit, Keeps};
 
 use crate::{Source, TEXT_LIMIT, Texts, append, copy};
@@ -50,10 +50,11 @@ impl Spelling {
         }
     }
 
-    /// How many bytes the text has.
+    /// How many bytes the text has. Only the lengths of code and text matter.
     pub fn size(self, texts: &Texts) -> usize
         requires { length (laid_out self) ≤ longest_text }
-        ensures { result ≡ length (spelling_bytes texts.now self) }
+        ensures bytes { result ≡ length (spelling_bytes texts.now self) }
+        ensures lengths { Sized (length texts.now.code) (length texts.now.text) self result }
     {
         match self {
             Spelling::Code(at, size) => texts.code_text(at, size).len(),

@@ -5,4 +5,4 @@ pub returns-in_default-pop : goal.returns-in_default-pop
 returns-in_default-pop c = property_short c.fetch_word.ensures c.requires.runs c.in-Some.is c.pop.ensures c.in_default-pop.is c.underflow.ensures
 
 pub returns : goal.returns
-returns c = loads_property c.fetch_word.ensures c.requires.runs c.in-Some.is c.name-key.ensures c.bytes_of.ensures c.get_property-v.result c.pop.ensures c.in-Some-pop.is c.get_property-v.ensures c.push_value.ensures
+returns c = loads_property c.fetch_word.ensures c.requires.runs c.in-Some.is c.name-key.ensures c.bytes_of.ensures c.get_property-v.result c.pop.ensures c.in-Some-pop.is c.get_property-v.ensures.bytes c.push_value.ensures
