@@ -1,31 +1,33 @@
 //! The Rust's answers, a row each: an operation, the answer in hexadecimal, how many bytes follow, and these, filled up with points.
+ghost use Rattle.std.specs.Prelude.{◌<◌};
+
 use number::JsNumber;
 use number::format::LONGEST_TEXT;
 use number::parse::{Reading, Saved};
 
-// Bytes of a row.
-const ROW: usize = 86;
+// Bytes of a row, with its line end.
+pub const ROW: usize = 87;
 
 // The most bytes of a row's text, and where it starts in its array.
 const MOST: usize = 32;
 
 const START: usize = 4;
 
-fn gives(op: &str, a: JsNumber, b: JsNumber) -> Option<u64> {
+fn gives(op: u8, a: JsNumber, b: JsNumber) -> Option<u64> {
     let number = match op {
-        "*" => a * b,
-        "/" => a / b,
-        "%" => a % b,
-        "+" => a + b,
-        "-" => a - b,
-        "n" => -a,
-        "&" => a & b,
-        "|" => a | b,
-        "^" => a ^ b,
-        "<" => a << b,
-        ">" => a >> b,
-        "l" => return Some(u64::from(a.less(b))),
-        "e" => return Some(u64::from(a.less_eq(b))),
+        b'*' => a * b,
+        b'/' => a / b,
+        b'%' => a % b,
+        b'+' => a + b,
+        b'-' => a - b,
+        b'n' => -a,
+        b'&' => a & b,
+        b'|' => a | b,
+        b'^' => a ^ b,
+        b'<' => a << b,
+        b'>' => a >> b,
+        b'l' => return Some(u64::from(a.less(b))),
+        b'e' => return Some(u64::from(a.less_eq(b))),
         _ => return None,
     };
     Some(number.bits)
@@ -52,45 +54,55 @@ fn reads_in_parts(text: &[u8], number: JsNumber) -> bool {
         })
 }
 
+// What is no digit, a capital too, counts as 0.
+fn nibble(c: u8) -> u8
+    ensures { result < 16 }
+{
+    match c {
+        b'0'..=b'9' => c - b'0',
+        b'a'..=b'f' => c - b'a' + 10,
+        _ => 0,
+    }
+}
+
+fn byte(high: u8, low: u8) -> u8 {
+    nibble(high) * 16 + nibble(low)
+}
+
+fn bits(digits: &[u8]) -> u64 {
+    digits
+        .iter()
+        .fold(0, |n, c| (n << 4) | u64::from(nibble(*c)))
+}
+
 // The text is a part of a longer one, whose other bytes are digits: who reads or writes too far meets them.
-fn text_agrees(op: &str, number: JsNumber, digits: &str, count: usize) -> Option<bool> {
+fn text_agrees(op: u8, number: JsNumber, pairs: &[[u8; 2]], count: usize) -> bool {
     if MOST < count {
-        return None;
+        return false;
     }
     let mut all = [b'7'; 40];
-    let text = &mut all[START..START + count];
-    hex::decode_to_slice(digits, text).ok()?;
+    let places = all[START..START + count].iter_mut();
+    for (place, [high, low]) in places.zip(pairs) {
+        *place = byte(*high, *low);
+    }
     let text = &all[START..START + count];
-    if op == "f" {
-        return Some(formats(number, text));
+    if op == b'f' {
+        return formats(number, text);
     }
-    Some(JsNumber::parse_js_number(text) == number && reads_in_parts(text, number))
+    JsNumber::parse_js_number(text) == number && reads_in_parts(text, number)
 }
 
-fn operand(digits: Option<&str>) -> Option<JsNumber> {
-    let bits = u64::from_str_radix(digits?, 16).ok()?;
-    Some(JsNumber::raw(bits))
-}
-
-fn compared(row: &str) -> Option<bool> {
-    if row.len() != ROW {
-        return None;
+/// Only what the operation needs is looked at: not what parts the fields, ends the row or fills it up.
+pub fn agrees(row: &[u8; ROW]) -> bool {
+    let op = row[0];
+    let answer = bits(&row[2..18]);
+    let digits = &row[22..86];
+    if op == b'p' || op == b'f' {
+        let count = usize::from(byte(row[19], row[20]));
+        let (pairs, _) = digits.as_chunks::<2>();
+        return text_agrees(op, JsNumber::raw(answer), pairs, count);
     }
-    let mut parts = row.split(' ');
-    let op = parts.next()?;
-    let bits = u64::from_str_radix(parts.next()?, 16).ok()?;
-    let count = usize::from_str_radix(parts.next()?, 16).ok()?;
-    let digits = parts.next()?.trim_end_matches('.');
-    if op == "p" || op == "f" {
-        return text_agrees(op, JsNumber::raw(bits), digits, count);
-    }
-    let a = operand(digits.get(..16))?;
-    // Negation has one operand.
-    let b = operand(digits.get(16..)).unwrap_or(JsNumber::JS_ZERO);
-    Some(gives(op, a, b) == Some(bits))
-}
-
-/// What does not read as a row, as one that is cut, agrees with nothing.
-pub fn agrees(row: &str) -> bool {
-    compared(row) == Some(true)
+    let a = JsNumber::raw(bits(&digits[..16]));
+    let b = JsNumber::raw(bits(&digits[16..32]));
+    gives(op, a, b) == Some(answer)
 }

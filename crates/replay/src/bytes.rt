@@ -1,10 +1,12 @@
-//! Numbers, texts and values as the list has them; a read past its end answers None.
+//! Numbers, texts and values as the list has them. A byte past the end reads as 256, which no byte is: what stands there agrees with nothing that the engine
+//! holds, but for the numbers of two bytes and more, whose bytes are joined by `|`.
 use value::Value;
 
-// What is left to read of a program.
+// A program, and the place up to which it is read; that may lie past its end.
 #[derive(Clone, Copy)]
 pub struct List<'a> {
-    left: &'a [u8],
+    program: &'a [u8],
+    place: usize,
 }
 
 // A value of the list.
@@ -21,55 +23,64 @@ pub enum Listed<'a> {
 
 impl<'a> List<'a> {
     pub fn new(program: &'a [u8]) -> List<'a> {
-        List { left: program }
+        List { program, place: 0 }
     }
 
     pub fn is_done(&self) -> bool {
-        self.left.is_empty()
+        self.program.len() <= self.place
     }
 
-    fn chunk<const N: usize>(&mut self) -> Option<[u8; N]> {
-        let (front, left) = self.left.split_first_chunk::<N>()?;
-        self.left = left;
-        Some(*front)
+    // Nothing is left, and nothing was missing.
+    pub fn is_whole(&self) -> bool {
+        self.place == self.program.len()
     }
 
-    pub fn byte(&mut self) -> Option<u64> {
-        let [b] = self.chunk::<1>()?;
-        Some(u64::from(b))
+    pub fn byte(&mut self) -> u64 {
+        let byte = match self.program.get(self.place) {
+            Some(b) => u64::from(*b),
+            None => 256,
+        };
+        self.place = self.place.saturating_add(1);
+        byte
     }
 
-    pub fn word(&mut self) -> Option<u64> {
-        let bytes = self.chunk::<2>()?;
-        Some(u64::from(u16::from_be_bytes(bytes)))
+    pub fn word(&mut self) -> u64 {
+        let high = self.byte();
+        (high << 8) | self.byte()
     }
 
-    pub fn triple(&mut self) -> Option<u64> {
-        let [a, b, c] = self.chunk::<3>()?;
-        Some(u64::from(u32::from_be_bytes([0, a, b, c])))
+    pub fn triple(&mut self) -> u64 {
+        let high = self.byte();
+        (high << 16) | self.word()
     }
 
-    fn eight(&mut self) -> Option<u64> {
-        let bytes = self.chunk::<8>()?;
-        Some(u64::from_be_bytes(bytes))
+    pub fn quad(&mut self) -> u64 {
+        let high = self.word();
+        (high << 16) | self.word()
     }
 
+    fn eight(&mut self) -> u64 {
+        let high = self.quad();
+        (high << 32) | self.quad()
+    }
+
+    // None where a byte of it is missing.
     pub fn text(&mut self) -> Option<&'a [u8]> {
-        let size = self.word()? as usize;
-        let (text, left) = self.left.split_at_checked(size)?;
-        self.left = left;
+        let size = self.word() as usize;
+        let (text, _) = self.program.get(self.place..)?.split_at_checked(size)?;
+        self.place = self.place.saturating_add(size);
         Some(text)
     }
 
     pub fn value(&mut self) -> Option<Listed<'a>> {
-        Some(match self.byte()? {
+        Some(match self.byte() {
             0 => Listed::Undefined,
             1 => Listed::Null,
-            2 => Listed::Boolean(self.byte()?),
-            3 => Listed::Number(self.eight()?),
+            2 => Listed::Boolean(self.byte()),
+            3 => Listed::Number(self.eight()),
             4 => Listed::Text(self.text()?),
-            5 => Listed::Object(self.eight()?),
-            6 => Listed::Function(self.eight()?),
+            5 => Listed::Object(self.eight()),
+            6 => Listed::Function(self.eight()),
             _ => return None,
         })
     }

@@ -70,10 +70,7 @@ impl fmt::Display for Differs {
     }
 }
 
-// The list has a number, and it is this one.
-pub fn want(listed: Option<u64>, have: u64, what: Differs) -> Result<(), Differs> {
-    match listed {
-        Some(n) if n == have => Ok(()),
-        _ => Err(what),
-    }
+// The list's number is this one.
+pub fn want(listed: u64, have: u64, what: Differs) -> Result<(), Differs> {
+    if listed == have { Ok(()) } else { Err(what) }
 }

@@ -155,7 +155,7 @@ impl<'a> Held<'a> {
     fn object(self, list: &mut List<'_>, i: usize) -> Result<u64, Differs> {
         let [kind] = row::<1>(&self.stores.heap, OBJECTS_AT, i).ok_or(Differs::Object)?;
         want(list.byte(), kind, Differs::Object)?;
-        let n = list.word().ok_or(Differs::Property)?;
+        let n = list.word();
         for _ in 0..n {
             self.property(list, i as u64)?;
         }
@@ -171,7 +171,7 @@ impl<'a> Held<'a> {
             properties = properties.saturating_add(self.object(list, i)?);
         }
         let held = self.counts.sizes.properties as u64;
-        want(Some(properties), held, Differs::Properties)
+        want(properties, held, Differs::Properties)
     }
 
     fn globals(self, list: &mut List<'_>) -> Result<(), Differs> {

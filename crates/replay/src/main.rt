@@ -6,8 +6,7 @@ use bytes::List;
 use differs::{Differs, want};
 use heapops::Counts;
 use held::{Held, drained};
-use host::Refusal;
-use report::Stores;
+use report::{Stores, read_full};
 use run::Ran;
 use std::io::{self, Read};
 use texts::OUTPUT_LIMIT;
@@ -21,23 +20,10 @@ mod held;
 const TOLD: u64 = 20;
 
 // "CWR1", with which a list begins.
-const MAGIC: u32 = 0x43575231;
+const MAGIC: u64 = 0x43575231;
 
 // The most bytes of a program.
 const PROGRAM_BYTES: usize = 65536;
-
-// The stores that the engine is lent, and where its output is drained to.
-#[derive(Drop)]
-struct Engine {
-    stores: Stores,
-    drained: [u8; OUTPUT_LIMIT],
-}
-
-impl Engine {
-    fn drain(&mut self, counts: Counts) -> Result<(usize, Counts), Refusal> {
-        self.stores.drain(counts, &mut self.drained)
-    }
-}
 
 // A program as far as it was replayed: the counts that the engine answered last, and how many images were loaded and runs made.
 #[derive(Drop)]
@@ -71,22 +57,23 @@ fn ended(held: Held<'_>, list: &mut List<'_>, e: Result<Value, Stop>) -> Result<
     }
 }
 
-// What a run answers and leaves; `size` is that of its output.
+// What a run answers and leaves; `out` has its output, of `size` bytes.
 fn compared(
-    engine: &Engine,
+    stores: &Stores,
+    out: &[u8],
     list: &mut List<'_>,
     r: Ran,
     size: Option<usize>,
 ) -> Result<(), Differs> {
     let held = Held {
-        stores: &engine.stores,
+        stores,
         counts: r.counts,
     };
     ended(held, list, r.end)?;
     want(list.triple(), r.steps as u64, Differs::Steps)?;
     held.state(list)?;
     let size = size.ok_or(Differs::Output)?;
-    drained(list, &engine.drained, size, Differs::Output)?;
+    drained(list, out, size, Differs::Output)?;
     held.in_use(list)
 }
 
@@ -94,80 +81,99 @@ impl Progress {
     // A load is refused where the list has the number of a question behind its image.
     fn load(
         &mut self,
-        engine: &mut Engine,
+        stores: &mut Stores,
         list: &mut List<'_>,
         refused: bool,
     ) -> Result<(), Differs> {
         let image = list.text().ok_or(Differs::Cut)?;
-        match engine.stores.load(self.counts, image) {
+        match stores.load(self.counts, image) {
             Ok((i, counts)) => {
                 self.counts = counts;
-                let wanted = if refused { None } else { Some(self.images) };
+                let next = self.images;
                 self.images = self.images.saturating_add(1);
-                want(wanted, i as u64, Differs::Load)
+                if refused {
+                    return Err(Differs::Load);
+                }
+                want(next, i as u64, Differs::Load)
             }
-            Err(e) => {
-                let question = if refused { list.byte() } else { None };
-                want(question, u64::from(e), Differs::Load)
-            }
+            Err(e) if refused => want(list.byte(), u64::from(e), Differs::Load),
+            Err(_) => Err(Differs::Load),
         }
     }
 
     // So is a run where it has one behind its image's number.
     fn run(
         &mut self,
-        engine: &mut Engine,
+        stores: &mut Stores,
+        out: &mut [u8],
         list: &mut List<'_>,
         refused: bool,
     ) -> Result<(), Differs> {
-        let image = list.byte().ok_or(Differs::Run)? as usize;
-        match engine.stores.run(self.counts, image) {
+        let image = list.byte() as usize;
+        match stores.run(self.counts, image) {
             Ok(r) => {
                 self.counts = r.counts;
                 self.runs = self.runs.saturating_add(1);
-                let size = engine.drain(r.counts).ok().map(|(n, _)| n);
+                let size = stores.drain(r.counts, out).ok().map(|(n, _)| n);
                 if refused {
                     return Err(Differs::Run);
                 }
-                compared(engine, list, r, size)
+                compared(stores, out, list, r, size)
             }
-            Err(e) => {
-                let question = if refused { list.byte() } else { None };
-                want(question, u64::from(e), Differs::Run)
-            }
+            Err(e) if refused => want(list.byte(), u64::from(e), Differs::Run),
+            Err(_) => Err(Differs::Run),
         }
     }
 
-    fn drain(&mut self, engine: &mut Engine, list: &mut List<'_>) -> Result<(), Differs> {
-        let Ok((n, counts)) = engine.drain(self.counts) else {
+    fn drain(
+        &mut self,
+        stores: &Stores,
+        out: &mut [u8],
+        list: &mut List<'_>,
+    ) -> Result<(), Differs> {
+        let Ok((n, counts)) = stores.drain(self.counts, out) else {
             return Err(Differs::Drain);
         };
         self.counts = counts;
-        drained(list, &engine.drained, n, Differs::Drain)
+        drained(list, out, n, Differs::Drain)
     }
 
     // One call of the list.
-    fn call(&mut self, engine: &mut Engine, list: &mut List<'_>) -> Result<(), Differs> {
+    fn call(
+        &mut self,
+        stores: &mut Stores,
+        out: &mut [u8],
+        list: &mut List<'_>,
+    ) -> Result<(), Differs> {
         match list.byte() {
-            Some(1) => self.load(engine, list, false),
-            Some(2) => self.run(engine, list, false),
-            Some(3) => self.drain(engine, list),
-            Some(7) => self.run(engine, list, true),
-            Some(8) => self.load(engine, list, true),
+            1 => self.load(stores, list, false),
+            2 => self.run(stores, out, list, false),
+            3 => self.drain(stores, out, list),
+            7 => self.run(stores, out, list, true),
+            8 => self.load(stores, list, true),
             _ => Err(Differs::Cut),
         }
     }
 
     // A program's calls, each of which has a byte or more.
-    fn calls(&mut self, engine: &mut Engine, program: &[u8]) -> Result<(), Differs> {
+    fn calls(
+        &mut self,
+        stores: &mut Stores,
+        out: &mut [u8],
+        program: &[u8],
+    ) -> Result<(), Differs> {
         let mut list = List::new(program);
         for _ in 0..program.len() {
             if list.is_done() {
-                return Ok(());
+                break;
             }
-            self.call(engine, &mut list)?;
+            self.call(stores, out, &mut list)?;
         }
-        Ok(())
+        if list.is_whole() {
+            Ok(())
+        } else {
+            Err(Differs::Cut)
+        }
     }
 }
 
@@ -179,8 +185,8 @@ struct Found {
 }
 
 // The calls of a program, on a cleared engine.
-fn replayed(engine: &mut Engine, program: &[u8]) -> Found {
-    let Ok(counts) = engine.stores.clear() else {
+fn replayed(stores: &mut Stores, out: &mut [u8], program: &[u8]) -> Found {
+    let Ok(counts) = stores.clear() else {
         return Found {
             differs: Some(Differs::Clear),
             runs: 0,
@@ -191,89 +197,83 @@ fn replayed(engine: &mut Engine, program: &[u8]) -> Found {
         images: 0,
         runs: 0,
     };
-    let differs = progress.calls(engine, program).err();
+    let differs = progress.calls(stores, out, program).err();
     Found {
         differs,
         runs: progress.runs,
     }
 }
 
+// What is printed is the program's only answer: a failure to print is passed over, and the rest is compared and printed all the same.
+fn pass_over(_printed: io::Result<()>) {}
+
 impl Tally {
     // One program more. The first differences are told.
-    fn add(&mut self, rt: &impl Print, f: Found) -> io::Result<()> {
+    fn add(&mut self, rt: &impl Print, f: Found) {
         self.programs = self.programs.saturating_add(1);
         self.runs = self.runs.saturating_add(f.runs);
         let Some(differs) = f.differs else {
-            return Ok(());
+            return;
         };
         if self.differ < TOLD {
-            println!(rt; "program {}, run {}: {differs}", self.programs, f.runs)?;
+            pass_over(println!(rt; "program {}, run {}: {differs}", self.programs, f.runs));
         }
         self.differ = self.differ.saturating_add(1);
-        Ok(())
     }
 
     // `runs` is the list's count of them.
-    fn report(&self, rt: &impl Print, runs: u64) -> io::Result<()> {
-        println!(rt;
+    fn report(&self, rt: &impl Print, runs: u64) {
+        pass_over(println!(rt;
             "{} programs, {} runs, {} differ",
             self.programs, self.runs, self.differ
-        )?;
+        ));
         if self.cut {
-            println!(rt; "the list is cut")?;
+            pass_over(println!(rt; "the list is cut"));
         }
         if self.differ == 0 && self.runs != runs {
-            println!(rt; "the list has another count of runs")?;
+            pass_over(println!(rt; "the list has another count of runs"));
         }
-        Ok(())
     }
 }
 
-// A number of the list's head or a program's size; 0 where the list has ended.
-fn number(list: &mut impl Read) -> u32 {
-    let mut bytes = [0u8; 4];
-    match list.read_exact(&mut bytes) {
-        Ok(()) => u32::from_be_bytes(bytes),
-        Err(_) => 0,
+// The next program, whose bytes go to the start of the buffer. A byte that is missing of its size is 0.
+fn next_program<'a>(input: &mut impl Read, buf: &'a mut [u8]) -> Option<&'a [u8]> {
+    let mut size = [0u8; 4];
+    read_full(input, &mut size);
+    let program = buf.get_mut(..List::new(&size).quad() as usize)?;
+    if read_full(input, program) < program.len() {
+        return None;
     }
-}
-
-// The next program, whose bytes go to the start of the buffer.
-fn next_program<'a>(list: &mut impl Read, buf: &'a mut [u8]) -> Option<&'a [u8]> {
-    let program = buf.get_mut(..number(list) as usize)?;
-    list.read_exact(program).ok()?;
     Some(program)
 }
 
-fn programs(
-    rt: &impl Print,
-    list: &mut impl Read,
-    engine: &mut Engine,
-    count: u32,
-) -> io::Result<Tally> {
+fn programs(rt: &impl Print, input: &mut impl Read, stores: &mut Stores, count: u64) -> Tally {
+    let mut out = [0u8; OUTPUT_LIMIT];
     let mut buf = [0u8; PROGRAM_BYTES];
     let mut tally = Tally::default();
     for _ in 0..count {
-        let Some(program) = next_program(list, &mut buf) else {
+        let Some(program) = next_program(input, &mut buf) else {
             tally.cut = true;
-            return Ok(tally);
+            return tally;
         };
-        tally.add(rt, replayed(engine, program))?;
+        tally.add(rt, replayed(stores, &mut out, program));
     }
-    Ok(tally)
+    tally
 }
 
-fn main(rt: HostRuntime) -> io::Result<()> {
-    let mut list = rt.reader();
-    if number(&mut list) != MAGIC {
-        return println!(rt; "this is no list");
+fn main(rt: HostRuntime) {
+    let mut input = rt.stdin();
+    // so is one that is missing of the head
+    let mut head = [0u8; 12];
+    read_full(&mut input, &mut head);
+    let mut head = List::new(&head);
+    if head.quad() != MAGIC {
+        pass_over(println!(rt; "this is no list"));
+        return;
     }
-    let count = number(&mut list);
-    let runs = number(&mut list);
-    let mut engine = Engine {
-        stores: Stores::filled(0xaa),
-        drained: [0; OUTPUT_LIMIT],
-    };
-    let tally = programs(&rt, &mut list, &mut engine, count)?;
-    tally.report(&rt, u64::from(runs))
+    let count = head.quad();
+    let runs = head.quad();
+    let mut stores = Stores::filled(0xaa);
+    let tally = programs(&rt, &mut input, &mut stores, count);
+    tally.report(&rt, runs);
 }

@@ -3,12 +3,13 @@
 
 use heapops::Counts;
 use host::{Given, Refusal};
+pub use input::read_full;
 use run::Ran;
-use std::fmt;
-use std::io::{self, Write};
+use std::{fmt, io};
 pub use stores::Stores;
 use value::Value;
 
+mod input;
 mod stores;
 
 // The end's number, the steps, the value whose text is printed, and the counts as they stand.
@@ -63,9 +64,11 @@ fn loaded_and_run(stores: &mut Stores, fresh: Counts, image: &[u8]) -> Told {
     }
 }
 
+// What is printed is a program's only answer: a failure to print is passed over, and the rest is printed all the same.
+fn pass_over(_printed: io::Result<()>) {}
+
 // What drain wrote: of each line its size in two bytes, and its bytes.
-fn print_lines(rt: &impl Print, drained: &[u8]) -> io::Result<()> {
-    let mut out = io::writer(rt);
+fn print_lines(rt: &impl Print, drained: &[u8]) {
     let mut rest = drained;
     // each line takes a byte at least, so there are no more lines than bytes
     for _ in 0..drained.len() {
@@ -76,35 +79,34 @@ fn print_lines(rt: &impl Print, drained: &[u8]) -> io::Result<()> {
         let Some((line, after)) = tail.split_at_checked(size) else {
             break;
         };
-        out.write_all(b">")?;
-        out.write_all(line)?;
-        out.write_all(b"\n")?;
+        pass_over(rt.write_all(b">"));
+        pass_over(rt.write_all(line));
+        pass_over(rt.write_all(b"\n"));
         rest = after;
     }
-    Ok(())
 }
 
-fn print_told(rt: &impl Print, stores: &Stores, buffer: &mut [u8], told: Told) -> io::Result<()> {
-    print!(rt; "{told}")?;
+// Not inlined: its buffers would stand in the frame of `run_image`, beside the stores, while the image runs.
+#[inline(never)]
+fn print_told(rt: &impl Print, stores: &Stores, buffer: &mut [u8], told: Told) {
+    pass_over(print!(rt; "{told}"));
     if let Ok(n) = stores.text_of(told.counts, Given::Plain(told.value), buffer) {
         let size = n.min(buffer.len());
-        let mut out = io::writer(rt);
-        out.write_all(&buffer[..size])?;
-        out.write_all(b"\n")?;
+        pass_over(rt.write_all(&buffer[..size]));
+        pass_over(rt.write_all(b"\n"));
     }
     if let Ok((n, _)) = stores.drain(told.counts, buffer) {
         let size = n.min(buffer.len());
-        print_lines(rt, &buffer[..size])?;
+        print_lines(rt, &buffer[..size]);
     }
-    Ok(())
 }
 
-pub fn run_image(rt: &impl Print, image: &[u8]) -> io::Result<()> {
+pub fn run_image(rt: &impl Print, image: &[u8]) {
     let mut stores = Stores::filled(0);
     let Ok(fresh) = stores.clear() else {
-        return Ok(());
+        return;
     };
     let told = loaded_and_run(&mut stores, fresh, image);
     let mut buffer = [0u8; 65536];
-    print_told(rt, &stores, &mut buffer, told)
+    print_told(rt, &stores, &mut buffer, told);
 }

@@ -2,46 +2,52 @@
 //! input, loads and runs them; then meets every refusal at its edge.
 #![tactic(auto)]
 
+use report::{read_full, run_image};
 use rows::{OTHER, Tally};
-use std::io::{self, Read};
+use std::fmt::Display;
 
 mod examples;
 mod rows;
 
+// The most bytes that are read: more than the two images have.
+const STORED: usize = 1024;
+
+// What is printed is the program's only answer: a failure to print is passed over, and the rest is printed all the same.
+fn say(rt: &impl Print, line: impl Display + Drop) {
+    let _ = rt.println(line);
+}
+
 // What was written beside what is stored; what was written is run.
-fn compare(
-    rt: &impl Print,
-    name: &str,
-    buffer: &[u8],
-    size: usize,
-    stored: &[u8],
-) -> io::Result<()> {
+fn compare(rt: &impl Print, name: &str, buffer: &[u8], size: usize, stored: &[u8]) {
     let Some((image, others)) = buffer.split_at_checked(size) else {
-        return Ok(());
+        return;
     };
     let same = image == stored && others.iter().all(|x| *x == OTHER);
     let are = if same { "are" } else { "are not" };
-    println!(rt; "{name}: the bytes {are} the stored image's")?;
-    report::run_image(rt, image)
+    say(
+        rt,
+        format_args!("{name}: the bytes {are} the stored image's"),
+    );
+    run_image(rt, image);
 }
 
-fn write_examples(rt: &impl Print, stored: &[u8]) -> io::Result<Tally> {
+fn write_examples(rt: &impl Print, stored: &[u8]) -> Tally {
     let mut buffer = [OTHER; 256];
     let t = examples::sample(Tally::default(), &mut buffer);
     let Some((sample, nested)) = stored.split_at_checked(t.writer.size) else {
-        return Ok(t);
+        return t;
     };
-    compare(rt, "sample", &buffer, t.writer.size, sample)?;
+    compare(rt, "sample", &buffer, t.writer.size, sample);
     let mut buffer = [OTHER; 256];
     let t = examples::nested(t, &mut buffer);
-    compare(rt, "nested", &buffer, t.writer.size, nested)?;
-    Ok(t)
+    compare(rt, "nested", &buffer, t.writer.size, nested);
+    t
 }
 
-fn main(rt: HostRuntime) -> io::Result<()> {
-    let mut stored = Vec::new(rt.alloc());
-    rt.reader().read_to_end(&mut stored)?;
-    let t = write_examples(&rt, stored.as_slice())?;
+fn main(rt: HostRuntime) {
+    let mut stored = [0u8; STORED];
+    let n = read_full(&mut rt.stdin(), &mut stored);
+    let t = write_examples(&rt, &stored[..n]);
     let t = rows::all(t);
-    println!(rt; "calls: {t}")
+    say(&rt, format_args!("calls: {t}"));
 }
