@@ -10,7 +10,7 @@ use Rattle.machine.specs.Program as P
 use Rattle.machine.specs.Image as I
 use Rattle.machine.specs.Host as H
 
-abbrev IsSome : ℕ → Type 0
+abbrev pub IsSome : ℕ → Type 0
 IsSome zero = ⊥
 IsSome (suc n) = Unit {0}
 

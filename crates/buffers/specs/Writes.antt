@@ -93,10 +93,11 @@ module _ {c : Counts} {g : Tables} {m : Mem} (e : Lent c g m) where
   })
 
   module _ {b b' : List ℕ} where
-    pub drain_short : Writes (take c.output m.output) b None b' → Called (H.drain (length b)) c g m (H.refusal 31) c g m
+    pub drain_short : Writes (take c.output m.output) b None b' → Called (H.drain (length b)) c g m (H.refusal 31) c g m × Buffered (H.refusal 31) b b'
     drain_short f =
-        let k : leb (length (bytes_of m.output c.output)) (length b) ≡ false = rw output_in_use (short f).room in
-        called_no e (ap (λ (x : Bool). H.ask 31 x none) k)
+        let s = short f in
+        let k : leb (length (bytes_of m.output c.output)) (length b) ≡ false = rw output_in_use s.room in
+        (called_no e (ap (λ (x : Bool). H.ask 31 x none) k), record { bytes = s.bytes })
 
     pub drain_bytes : {k : ℕ} → Writes (take c.output m.output) b (Some k) b' → Called (H.drain (length b)) c g m (H.wrote (bytes_of b' k)) (emptied c) g m × Buffered (H.wrote (bytes_of b' k)) b b'
     drain_bytes {k} f =

@@ -124,11 +124,16 @@ module _ {c : Counts} {g : Tables} {m : Mem} (i : ℕ) (e : Lent c g m) where
         output = f.output;
       }
 
-      pub start_ran : (x : Ran) {m' : Mem} → (Unique (state_in (with_depths d c) g (with_stacks w m)) → ran_of x (with_depths d c) g m' ≡ run_of R.max_steps 0 (state_in (with_depths d c) g (with_stacks w m))) → Leaves (with_depths d c) x.counts g m'
+      ran_from_lem : (x : Ran) {m' : Mem} → (Unique (state_in (with_depths d c) g (with_stacks w m)) → ran_of x (with_depths d c) g m' ≡ run_of R.max_steps 0 (state_in (with_depths d c) g (with_stacks w m))) → Leaves (with_depths d c) x.counts g m'
           → Called (H.run i) c g m (H.ran (result_of x.end) x.steps) x.counts g m'
-      start_ran x {m'} t l =
+      ran_from_lem x {m'} t l =
           let p : Unique (state_in c g m) → Comes (H.run i) (state_in c g m) (H.ran (result_of x.end) x.steps) (ran_of x (with_depths d c) g m').state = λ z. run_went i (state_in c g m) found (state_in (with_depths d c) g (with_stacks w m)) (ran_of x (with_depths d c) g m') goes
           (subst (λ (n : ℕ). ran_of x (with_depths d c) g m' ≡ run_of n 0 (state_in (with_depths d c) g (with_stacks w m))) (sym limit_is) (t (unique_begun i (state_in c g m) _ goes z))) in
           let ic : image_counts x.counts ≡ image_counts c = ap (λ (n : ℕ). record { code = n; images = x.counts.images }) l.code ∙ ap (λ (n : ℕ). record { code = c.code; images = n }) l.images in
           called_sure e refl (λ z. ((p z).0, (p z).1 ∙ sym (ap (λ (y : ImageCounts). state_of x.counts m' (base_of y g)) ic)))
           (lent_again e l refl refl) (λ s. subst (λ (y : ImageCounts). Sound (stores_of g) y) (sym ic) s) (λ z. l.placed)
+
+      pub start_ran : {a : Counts} (x : Ran) {m' : Mem} → a ≡ with_depths d c → (Unique (state_in a g (with_stacks w m)) → ran_of x a g m' ≡ run_of R.max_steps 0 (state_in a g (with_stacks w m))) → Leaves a x.counts g m'
+          → Called (H.run i) c g m (H.ran (result_of x.end) x.steps) x.counts g m'
+      start_ran {a} x {m'} q t l =
+          ran_from_lem x (subst (λ (y : Counts). Unique (state_in y g (with_stacks w m)) → ran_of x y g m' ≡ run_of R.max_steps 0 (state_in y g (with_stacks w m))) q t) (subst (λ (y : Counts). Leaves y x.counts g m') q l)

@@ -96,6 +96,10 @@ module _ {d : Depths} {w : List ℕ} {k : ℕ} (good : View.Ready d w) (t : TwoN
     after : {H : St.State → Type 0} (f : St.Bytes → M.Value → M.Value → Program) → ((m : St.Bytes) → f m (M.number a.bits) (M.number b.bits) ≡ I.pushed v) → Quickly H (I.pop_two f) d w q w'
     after f e = carry (λ y m. after_two f both refl (λ s h. e (St.bytes s)) m) put
 
+    -- of a value that is computed of these two numbers alone
+    pub computes_at : {H : St.State → Type 0} (f : St.Bytes → M.Value → M.Value → M.Value) → ((m : St.Bytes) → f m (M.number a.bits) (M.number b.bits) ≡ v) → Quickly H (I.binary f) d w q w' × Stays d w q w'
+    computes_at f e = (after (λ m a b. I.pushed (f m a b)) (λ m. ap I.pushed (e m)), stays)
+
     pub computes : {H : St.State → Type 0} {p : Program} {f : ℕ → ℕ → M.Value} → OnNumbers p f → f a.bits b.bits ≡ v → Quickly H p d w q w' × Stays d w q w'
     computes {H} o e = (subst (λ (p : Program). Quickly H p d w q w') (sym o.pops) (after o.makes (λ m. o.numbers m a.bits b.bits ∙ ap I.pushed e)), stays)
 

@@ -1,7 +1,7 @@
 -- A called function's frame: its arguments, taken from the operands, and Undefined for what is missing. Assumes nothing.
 use Rattle.stacks.specs.Layout.{slot_limit, slots_at, frames_at, handlers_at}
 use Rattle.std.specs.Prelude.{ℕ, zero, suc, ◌+◌, ◌-◌, ◌*◌, ◌≤◌, ◌<◌, min, max, List, [], ◌∷◌, ◌++◌, ◌≡◌, refl, length, replicate, Ok}
-use Rattle.std.proofs.Common.{arith, zero-add, suc-add, append_assoc, sym, ap, ap₂, ◌∙◌, length-append}
+use Rattle.std.proofs.Common.{arith, zero-add, suc-add, append_assoc, sym, subst, ap, ap₂, ◌∙◌, length-append}
 use Rattle.std.proofs.Math.Decide.{dec_lt}
 use Rattle.std.proofs.lemmas.List.{length-replicate, replicate-append-replicate}
 use Rattle.machine.specs.Value as M
@@ -9,7 +9,8 @@ use Rattle.machine.specs.Act as A
 use Rattle.machine.specs.Program.{make}
 use Rattle.machine.specs.Instruction as I
 use Rattle.machine.specs.Out.{out}
-use Rattle.value.specs.Words.{value_at, value_reads, Holds}
+use Rattle.value.specs.declared.Value.{Value}
+use Rattle.value.specs.Words.{value_of, value_at, set_value, value_reads, Holds, holds_set}
 use Rattle.value.specs.Arena.{apart_below, apart_above}
 use Rattle.value.specs.Lists.{row_of, row_append, row_ext}
 use Rattle.stacks.specs.declared.Depths.{Depths}
@@ -31,6 +32,11 @@ copy_more w₀ w w' from to i b c h = record {
         let z : j ≡ i = omega (arith, l) in
         let own : value_at w (3 * (from + i)) ≡ value_at w₀ (3 * (from + i)) = value_reads w₀ w (3 * (from + i)) (λ m x y. c.apart.at m (λ s t. omega arith)) in
         rw z (h.value ∙ own)
+
+-- the same of a value that is read and written
+pub copy_written : (w₀ w w' : List ℕ) (from to i : ℕ) (v : Value) → 3 * (from + i) + 3 ≤ slots_at → slots_at + 3 * (to + i) + 2 < length w → View.Copies w₀ w from to i
+    → value_of v ≡ value_at w (3 * (from + i)) → w' ≡ set_value w (slots_at + 3 * (to + i)) v → View.Copies w₀ w' from to (i + 1)
+copy_written w₀ w w' from to i v b l c r e = rw e (copy_more w₀ w (set_value w (slots_at + 3 * (to + i)) v) from to i b c (subst (λ (x : M.Value). Holds w (set_value w (slots_at + 3 * (to + i)) v) (slots_at + 3 * (to + i)) x) r (holds_set w (slots_at + 3 * (to + i)) v l)))
 
 -- the first p of a values, with Undefined where there are fewer
 exactly_none : (r : ℕ) → I.exactly r [] ≡ replicate r M.undefined

@@ -53,6 +53,9 @@ filled_slots {w} {w'} {from} {to} h f =
     ∙ ap (λ (x : List M.Value). x ++ row_of (to - from) (λ i. value_at w' (slots_at + 3 * (from + i)))) (slots_kept w w' from (apart_below f.apart slots_at (slots_at + 3 * from) (omega arith)))
     ∙ ap (λ (x : List M.Value). View.slots_of w from ++ x) (undefined_rows (to - from) (λ i. value_at w' (slots_at + 3 * (from + i))) (λ i l. f.values (from + i) (omega arith) (omega arith)))
 
+pub fill_all : {w w' : List ℕ} {from i to : ℕ} → i ≡ to → View.Filled w w' from i → View.Filled w w' from to
+fill_all {w} {w'} {from} e f = rw e at f
+
 row_set : {A : Type 0} (n j : ℕ) (f g : ℕ → A) (x : A) → j < n → g j ≡ x → ((i : ℕ) → (i ≡ j → ⊥) → g i ≡ f i) → row_of n g ≡ set (row_of n f) j x
 unfolding row_of
 row_set zero j f g x h e o = absurd (omega arith)

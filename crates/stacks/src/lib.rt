@@ -477,7 +477,9 @@ fn copy_arguments(w: &mut [u64], from: usize, to: usize, count: usize)
     ensures { Copies w.old w.new from to count }
 {
     for i in 0..count {
-        value::copy(w, SLOTS_AT + 3 * (to + i), 3 * (from + i));
+        // written and not copied: a word that the value does not use is 0 in its slot
+        let v = value::read(w, 3 * (from + i));
+        value::write(w, SLOTS_AT + 3 * (to + i), v);
     }
 }
 

@@ -1,3 +1,4 @@
+use Rattle.std.specs.Prelude.{refl}
 use Rattle.std.proofs.lemmas.Result.{err_from_is_err_and}
 use Rattle.run.specs.Runs.{whole_ready}
 use Rattle.host.specs.Lent.{whole_lent}
@@ -22,4 +23,4 @@ pub run_loop-requires : goal.run_loop-requires
 run_loop-requires c = start_whole c.args.image c.in_ok-lent.ensures c.in_ok-loaded.ensures c.in_ok-depths.ensures
 
 pub returns : goal.returns
-returns c = start_ran c.args.image c.in_ok-lent.ensures c.in_ok-loaded.ensures c.in_ok-depths.ensures c.run_loop.result c.run_loop.ensures.ran c.run_loop.ensures.leaves
+returns c = start_ran c.args.image c.in_ok-lent.ensures c.in_ok-loaded.ensures c.in_ok-depths.ensures c.run_loop.result refl c.run_loop.ensures.ran c.run_loop.ensures.leaves
